@@ -1,0 +1,17 @@
+pub mod Sums
+pub mod Two
+pub mod Pairs
+pub mod Division
+pub mod Cents
+pub mod Order
+pub mod Level
+pub mod Closed
+pub mod Calls
+pub mod Answers
+pub mod Limits
+pub mod Estates
+pub mod Refusals
+pub mod Changes
+pub mod Right
+pub mod Desks
+pub mod Promises

@@ -1,0 +1,14 @@
+// The limits of an estate, as its definitions have them.
+ghost use mathlib.Core.Path.{_≡_};
+ghost use lib.Dec.{leb};
+ghost use Rattle.estate.specs.Limits.{most-cents};
+
+// The most cents that one claim may be, and that may come at once.
+pub const MOST_CENTS: u64 = 1_000_000_000;
+
+// Whether one claim may be so many cents, and so many may come at once.
+pub fn may_be(cents: u64) -> bool
+    ensures { λ r. ⌜ r ≡ leb cents most-cents ⌝ }
+{
+    cents <= MOST_CENTS
+}

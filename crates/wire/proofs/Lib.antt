@@ -1,0 +1,4 @@
+pub mod Bytes
+pub mod CallRows
+pub mod Narrow
+pub mod Parts

@@ -1,0 +1,39 @@
+-- Numbers as bytes, eight bytes each, low byte first. Assumes nothing.
+use mathlib.Core.List.{List, [], _∷_}
+use Prim.Native.Nat.{ℕ, zero, suc, _+_, _*_, _/_, _%_, _^_, _<_}
+use lib.ListN.{getD, take, drop}
+use Rattle.std.specs.Joined.{joined}
+
+-- every one of these is a byte
+abbrev pub Bytes : List ℕ → Type 0
+Bytes bs = (i : ℕ) → getD bs i 0 < 256
+
+-- every one of these fits eight bytes
+abbrev pub Fitting : List ℕ → Type 0
+Fitting ns = (i : ℕ) → getD ns i 0 < 2 ^ 64
+
+-- the lowest k bytes of n
+unfoldable pub low-first : ℕ → ℕ → List ℕ
+low-first zero n = []
+low-first (suc k) n = n % 256 ∷ low-first k (n / 256)
+
+abbrev pub eight : ℕ → List ℕ
+eight n = low-first 8 n
+
+-- the number whose bytes these are
+unfoldable pub value : List ℕ → ℕ
+value [] = 0
+value (b ∷ bs) = b + 256 * value bs
+
+-- the number whose bytes begin at a place
+abbrev pub number-at : List ℕ → ℕ → ℕ
+number-at bs i = value (take 8 (drop i bs))
+
+-- the first n numbers in a row of bytes
+unfoldable pub numbers : ℕ → List ℕ → List ℕ
+numbers zero bs = []
+numbers (suc n) bs = value (take 8 bs) ∷ numbers n (drop 8 bs)
+
+-- a row: a kind, and numbers behind it
+unfoldable pub row : ℕ → List ℕ → List ℕ
+row k ns = k ∷ joined eight ns

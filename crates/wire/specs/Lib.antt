@@ -1,0 +1,6 @@
+pub mod Bytes
+pub mod Calls
+pub mod Answers
+pub mod Meaning
+pub mod Written
+pub mod Laws
