@@ -1,7 +1,10 @@
 -- Answers as rows of bytes. Assumes nothing.
+use mathlib.Core.Path.{_≡_}
 use mathlib.Core.List.{List, [], _∷_}
 use Prim.Native.Nat.{ℕ, _^_, _≤_, _<_}
 use lib.ListN.{length}
+use Rattle.std.specs.declared.option.Option.{Option}
+use Rattle.std.specs.declared.option.Option.the-variants.{Some, None}
 use Rattle.estate.specs.Answers.{Answer, refused, number, parts, amounts}
 use Rattle.wire.specs.Bytes.{Fitting, row}
 
@@ -32,3 +35,13 @@ Listed (amounts xs) = Unit {0}
 pub record Sendable (a : Answer) : Type 0 where
   pub listed : Listed a
   pub fitting : Fitting (fields a)
+
+-- what a kind and the numbers behind it are as an answer
+abbrev pub Shaped : ℕ → List ℕ → Option Answer → Type 0
+Shaped k ns None = (a : Answer) → Listed a → kind a ≡ k → fields a ≡ ns → ⊥
+Shaped k ns (Some a) = Listed a × (kind a ≡ k) × (fields a ≡ ns)
+
+-- what bytes are as an answer: the one whose bytes they are, or none has them
+abbrev pub Received : List ℕ → Option Answer → Type 0
+Received bs None = (a : Answer) → Sendable a → answer-row a ≡ bs → ⊥
+Received bs (Some a) = Sendable a × (answer-row a ≡ bs)
