@@ -67,8 +67,7 @@ module _ (k : ℕ) (rest : List ℕ) (whole : length rest % 8 ≡ 0) (h : Bytes 
       g a (s .listed) (row-kind (kind a) (fields a) rest (s .fitting) k e) (sym (row-numbers (kind a) (fields a) rest (s .fitting) k e))
   received-by (Some a) g =
       let n = length rest / 8 in
-      let long : length rest ≡ 8 * n = omega arith in
-      (
+      let long : length rest ≡ 8 * n = omega arith in (
         record { listed = g .0; fitting = subst Fitting (sym (g .2)) (fitting-numbers n rest long h) },
         rw (g .1, g .2, joined-numbers n rest long h),
       )

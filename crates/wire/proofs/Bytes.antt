@@ -8,7 +8,7 @@ use native.Mathlib.Nat.{add-zero, pow-succ', div-div-eq-div-mul}
 use lib.ListN.{length, getD, take, drop, replicate, length-append, length-drop, take-append-drop}
 use borrow.Rule.Slice.PartMut.{putMid}
 use Rattle.std.specs.Joined.{joined}
-use Rattle.std.proofs.shelf.Lists.{length-take-le, getD-take, getD-drop, getD-past, drop-more, drop-drop, take-more, take-all, take-at, drop-at, joined-more}
+use Rattle.std.proofs.shelf.Lists.{length-take-le, getD-take, getD-drop, getD-past, drop-more, drop-all, drop-drop, take-more, take-all, take-at, drop-at, joined-more}
 use Rattle.std.proofs.shelf.Tests.{cases-lt}
 use Rattle.wire.specs.Bytes.{Bytes, Fitting, low-first, eight, value, number-at, numbers, row}
 
@@ -95,28 +95,26 @@ fitting-numbers (suc n) bs long h zero =
 fitting-numbers (suc n) bs long h (suc i) =
     fitting-numbers n (drop 8 bs) (rest-long n bs long h) (bytes-drop 8 bs h) i
 
--- one byte of a number that begins at i, after k others
-value-more : (n k i : ℕ) (bs : List ℕ) → i + k < length bs → value (take (suc n) (drop (i + k) bs)) ≡ getD bs (i + k) 0 + 256 * value (take n (drop (i + suc k) bs))
+value-more : (b : List ℕ) (k : ℕ) → k < length b → value (drop k b) ≡ getD b k 0 + 256 * value (drop (k + 1) b)
 unfolding value
-value-more n k i bs lt =
-    let next : i + k + 1 ≡ i + suc k = omega arith in
-    rw (drop-more bs (i + k) 0 lt, next)
+value-more b k h = ap value (drop-more b k 0 h)
 
--- what `from_le_bytes` says of the bytes that begin at i
-pub value-eight : (i : ℕ) (bs : List ℕ) → i + 8 ≤ length bs → getD bs i 0 + getD bs (i + 1) 0 * 256 + getD bs (i + 2) 0 * 65536 + getD bs (i + 3) 0 * 16777216 + getD bs (i + 4) 0 * 4294967296 + getD bs (i + 5) 0 * 1099511627776 + getD bs (i + 6) 0 * 281474976710656 + getD bs (i + 7) 0 * 72057594037927936 ≡ value (take 8 (drop i bs))
+-- what `from_le_bytes` says of eight bytes
+pub value-is : (b : List ℕ) → length b ≡ 8 → getD b 0 0 + getD b 1 0 * 256 + getD b 2 0 * 65536 + getD b 3 0 * 16777216 + getD b 4 0 * 4294967296 + getD b 5 0 * 1099511627776 + getD b 6 0 * 281474976710656 + getD b 7 0 * 72057594037927936 ≡ value b
 unfolding value
-value-eight i bs h =
-    let start = add-zero i in
-    let first : value (take 8 (drop i bs)) ≡ getD bs i 0 + 256 * value (take 7 (drop (i + 1) bs)) = rw start at (value-more 7 0 i bs (omega arith)) in
+value-is b long =
+    let more : (k : ℕ) → k < 8 → value (drop k b) ≡ getD b k 0 + 256 * value (drop (k + 1) b) = λ k h. value-more b k (omega arith) in
+    let end : value (drop 8 b) ≡ 0 = ap value (drop-all 8 b (omega arith)) in
     omega (
       arith,
-      value-more 6 1 i bs (omega arith),
-      value-more 5 2 i bs (omega arith),
-      value-more 4 3 i bs (omega arith),
-      value-more 3 4 i bs (omega arith),
-      value-more 2 5 i bs (omega arith),
-      value-more 1 6 i bs (omega arith),
-      value-more 0 7 i bs (omega arith),
+      more 0 (omega arith),
+      more 1 (omega arith),
+      more 2 (omega arith),
+      more 3 (omega arith),
+      more 4 (omega arith),
+      more 5 (omega arith),
+      more 6 (omega arith),
+      more 7 (omega arith),
     )
 
 -- what `to_le_bytes` says of n

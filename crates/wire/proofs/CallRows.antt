@@ -6,13 +6,13 @@ use mathlib.Core.List.{List, [], _∷_, _++_, append-nil}
 use Prim.Native.Nat.{ℕ, zero, suc, _+_, _*_, _-_, _^_, _≤_, _<_, min}
 use native.Mathlib.Omega.{arith}
 use lib.Dec.{ltb, eqb}
-use lib.ListN.{length, getD, take, drop, replicate, length-append}
+use lib.ListN.{length, getD, take, drop, replicate, length-append, length-drop}
 use Rattle.std.proofs.shelf.Tests.{cases-lt, cases-order}
 use Rattle.std.proofs.shelf.Ways.{tells}
-use Rattle.std.proofs.shelf.Lists.{take-all, length-take-le, length-replicate, getD-append-left, getD-take}
+use Rattle.std.proofs.shelf.Lists.{take-all, length-take-le, length-replicate, getD-append-left, getD-take, take-at, drop-at}
 use Rattle.estate.specs.Calls.{Call, claims, proves, comes, shares, cents, garbled}
 use Rattle.wire.specs.Bytes.{Bytes, Fitting, low-first, eight, value, numbers, row}
-use Rattle.wire.specs.Calls.{kind, fields, call-row, Sendable, extent, call-at, read, Whole, Begins, First-misfit, narrow, Heard}
+use Rattle.wire.specs.Calls.{kind, fields, call-row, Sendable, extent, call-at, read, Whole, Begins, First-misfit, first-extent, narrow, Heard, Split}
 use Rattle.wire.specs.Laws.{One-call}
 use Rattle.wire.proofs.Bytes.{value-low-first, length-joined, joined-numbers, fitting-numbers, bytes-take, bytes-append, bytes-zeros}
 
@@ -190,14 +190,14 @@ first-misfit (b ∷ bs) p h e =
     ⊎-elim
     (λ (unknown : 4 < b). subst (First-misfit (b ∷ bs)) (garbled-place _ 0 p (read-unknown b (b ∷ bs) refl unknown) e) (misfit-unknown (b ∷ bs) (omega arith) unknown))
     (λ (known : b ≤ 4).
-        ⊎-elim
-        (λ (long : length (b ∷ bs) ≡ extent b).
-            let w : Whole b (b ∷ bs) = record { first = refl; known = known; long = long } in
-            absurd (not-garbled _ p (row-read b (b ∷ bs) w h .0) (sym (read-whole b (b ∷ bs) w) ∙ e)))
-        (⊎-elim
-        (λ (short : length (b ∷ bs) < extent b). subst (First-misfit (b ∷ bs)) (garbled-place _ _ p (read-short b (b ∷ bs) refl (omega arith) known short) e) (misfit-short b (b ∷ bs) refl (omega arith) known h short))
-        (λ (over : extent b < length (b ∷ bs)). subst (First-misfit (b ∷ bs)) (garbled-place _ _ p (read-long b (b ∷ bs) refl (omega arith) known over) e) (misfit-long b (b ∷ bs) refl (omega arith) known h over)))
-        (cases-order (length (b ∷ bs)) (extent b)))
+    ⊎-elim
+    (λ (long : length (b ∷ bs) ≡ extent b).
+    let w : Whole b (b ∷ bs) = record { first = refl; known = known; long = long } in
+    absurd (not-garbled _ p (row-read b (b ∷ bs) w h .0) (sym (read-whole b (b ∷ bs) w) ∙ e)))
+    (⊎-elim
+    (λ (short : length (b ∷ bs) < extent b). subst (First-misfit (b ∷ bs)) (garbled-place _ _ p (read-short b (b ∷ bs) refl (omega arith) known short) e) (misfit-short b (b ∷ bs) refl (omega arith) known h short))
+    (λ (over : extent b < length (b ∷ bs)). subst (First-misfit (b ∷ bs)) (garbled-place _ _ p (read-long b (b ∷ bs) refl (omega arith) known over) e) (misfit-long b (b ∷ bs) refl (omega arith) known h over)))
+    (cases-order (length (b ∷ bs)) (extent b)))
     (cases-lt 4 b)
 
 narrow-garbled : (c : Call) (p : ℕ) → garbled p ≡ narrow c → c ≡ garbled p
@@ -213,4 +213,26 @@ heard-by bs c h e = record {
   value = e;
   first = λ p g. first-misfit bs p h (narrow-garbled (read bs) p (sym g ∙ e));
   back = λ k s same. e ∙ ap (λ (l : List ℕ). narrow (read l)) (sym same) ∙ ap narrow (read-row k s);
+}
+
+extent-first : (bs : List ℕ) → 0 < length bs → 0 < first-extent bs
+extent-first bs some = grind (arith, tells)
+
+first-row : (bs : List ℕ) (c : Call) (behind : List ℕ) → Sendable c → bs ≡ call-row c ++ behind → first-extent bs ≡ length (call-row c)
+first-row bs c behind s same =
+    let first : getD bs 0 0 ≡ kind c = ap (λ (l : List ℕ). getD l 0 0) same ∙ getD-append-left (call-row c) behind 0 0 (row-some c) ∙ kind-first c in
+    let long = length-call-row c in
+    let room = ap length same ∙ length-append (call-row c) behind in
+    let known = s .known in
+    rw first (grind (arith, tells))
+
+pub split-by : (bs rest : List ℕ) (c : Call) → Heard (take (first-extent bs) bs) c → rest ≡ drop (first-extent bs) bs → Split bs c rest
+split-by bs rest c h e = record {
+  said = h;
+  left = e;
+  shorter = λ some. omega (arith, ap length e, length-drop (first-extent bs) bs, extent-first bs some);
+  next = λ k behind s same.
+      let first : first-extent bs ≡ length (call-row k) = first-row bs k behind s same in
+      let front : call-row k ≡ take (first-extent bs) bs = sym (rw (first, same) (take-at (call-row k) behind _ refl)) in
+      (h .back k s front, e ∙ (rw (first, same) (drop-at (call-row k) behind _ refl)));
 }

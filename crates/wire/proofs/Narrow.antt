@@ -34,8 +34,8 @@ narrow-enough l e (proves i c) few =
     ⊎-elim
     (λ (lt : i < 4294967295). let same : min i 4294967295 ≡ i = omega arith in rw same (refl, refl))
     (λ (ge : 4294967295 ≤ i).
-        let same : min i 4294967295 ≡ 4294967295 = omega arith in
-        rw same (answered-past l e 4294967295 i c (omega arith) (omega arith), after-past l e 4294967295 i c (omega arith) (omega arith)))
+    let same : min i 4294967295 ≡ 4294967295 = omega arith in
+    rw same (answered-past l e 4294967295 i c (omega arith) (omega arith), after-past l e 4294967295 i c (omega arith) (omega arith)))
     (cases-lt i 4294967295)
 narrow-enough l e (comes x) few = (refl, refl)
 narrow-enough l e shares few = (refl, refl)

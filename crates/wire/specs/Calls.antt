@@ -4,7 +4,7 @@ use mathlib.Core.Bool.{cond, _||_}
 use mathlib.Core.List.{List, [], _∷_, _++_}
 use Prim.Native.Nat.{ℕ, suc, _+_, _≤_, _<_, min}
 use lib.Dec.{ltb, eqb}
-use lib.ListN.{length, getD, take}
+use lib.ListN.{length, getD, take, drop}
 use Rattle.estate.specs.Calls.{Call, claims, proves, comes, shares, cents, garbled}
 use Rattle.wire.specs.Bytes.{Fitting, number-at, row}
 
@@ -69,10 +69,9 @@ pub record First-misfit (bs : List ℕ) (p : ℕ) : Type 0 where
   pub with-it : p < length bs → Begins (take (suc p) bs) → ⊥
   pub at-end : p ≡ length bs → (c : Call) → Sendable c → call-row c ≡ bs → ⊥
 
--- how many bytes the first call of a row of calls takes: all, where it cannot be read
-unfoldable pub first-extent : List ℕ → ℕ
-first-extent [] = 0
-first-extent (k ∷ bs) = cond (ltb 4 k) (1 + length bs) (min (extent k) (1 + length bs))
+-- how many bytes the first of a row of calls takes: all, where it cannot be read
+abbrev pub first-extent : List ℕ → ℕ
+first-extent bs = cond (ltb 4 (getD bs 0 0)) (length bs) (min (extent (getD bs 0 0)) (length bs))
 
 -- A call as the desk holds it, with a place of 32 bits. Every place past the last of these is held as the last: no desk has
 -- so many claims, so none of them is there.
@@ -90,3 +89,11 @@ pub record Heard (bs : List ℕ) (c : Call) : Type 0 where
   pub value : c ≡ narrow (read bs)
   pub first : (p : ℕ) → c ≡ garbled p → First-misfit bs p
   pub back : (k : Call) → Sendable k → call-row k ≡ bs → c ≡ narrow k
+
+-- What taking the first call c off the bytes bs says, with rest behind it: it is what the first bytes are; something is
+-- taken, if there is something; and of the bytes of a call with others behind them it is that call, and those are left.
+pub record Split (bs : List ℕ) (c : Call) (rest : List ℕ) : Type 0 where
+  pub said : Heard (take (first-extent bs) bs) c
+  pub left : rest ≡ drop (first-extent bs) bs
+  pub shorter : 0 < length bs → length rest < length bs
+  pub next : (k : Call) (behind : List ℕ) → Sendable k → bs ≡ call-row k ++ behind → (c ≡ narrow k) × (rest ≡ behind)

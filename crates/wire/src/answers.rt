@@ -34,7 +34,12 @@ impl Answer<&[u64]> {
         ensures { λ r. ⌜ Written (answer-row (told now (self .entry))) (now (out .entry)) (now (out .exit)) r ⌝ }
     {
         match self {
-            Answer::Refused(refusal, place) => put(out, 0, &[refusal.number(), u64::from(place)], &[]),
+            Answer::Refused(refusal, place) => put(
+                out,
+                0,
+                &[refusal.number(), u64::from(place)],
+                &[],
+            ),
             Answer::Number(n) => put(out, 1, &[n], &[]),
             Answer::Parts(d, shares) => put(out, 2, &[d, shares.len() as u64], shares),
             Answer::Amounts(cents) => put(out, 3, &[cents.len() as u64], cents),
@@ -57,7 +62,11 @@ impl Answer<Vec<u64>> {
     }
 }
 
-fn answer_of(heap: Global, kind: u8, numbers: &[u64]) -> Result<Option<Answer<Vec<u64>>>, AllocError>
+fn answer_of(
+    heap: Global,
+    kind: u8,
+    numbers: &[u64],
+) -> Result<Option<Answer<Vec<u64>>>, AllocError>
     ensures { λ r. ⌜ made r (λ o. Shaped kind (now (numbers .entry)) (mapped (told vec-items) o)) ⌝ }
 {
     match kind {

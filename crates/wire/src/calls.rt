@@ -1,10 +1,12 @@
 // Calls as rows of bytes.
 ghost use mathlib.Core.Path.{_≡_};
-ghost use Prim.Native.Nat.{_<_, _≤_};
+ghost use Prim.Native.Nat.{_+_, _<_, _≤_, min};
+ghost use lib.ListN.{length};
 ghost use Rattle.std.specs.Options.{Cases as BySome};
 ghost use Rattle.std.specs.Results.{Cases};
 ghost use Rattle.estate.specs.Calls.{garbled};
-ghost use Rattle.wire.specs.Calls.{call-row, read, narrow, Whole, Heard, extent as extent-of};
+ghost use Rattle.wire.specs.Bytes.{number-at};
+ghost use Rattle.wire.specs.Calls.{call-row, read, narrow, Whole, Heard, first-extent, Split, extent as extent-of};
 ghost use Rattle.wire.specs.Laws.{One-call, Narrow-enough};
 ghost use Rattle.wire.specs.Meaning.{meaning, heard};
 ghost use Rattle.wire.specs.Written.{Written};
@@ -52,6 +54,14 @@ impl Call {
             Err(place) => Err(place),
         }
     }
+
+    // The first of a row of calls with nothing between them, and the bytes behind it. Where it cannot be read none are left.
+    pub fn split_first(calls: &[u8]) -> (Result<Call, u32>, &[u8])
+        ensures { λ r. ⌜ Split (now (calls .entry)) (heard (r .0)) (now (r .1)) ⌝ }
+    {
+        let end = end_of_first(calls);
+        (Call::decode(&calls[0..end]), &calls[end..])
+    }
 }
 
 // How many bytes a call of this kind has.
@@ -63,6 +73,20 @@ fn extent(kind: u8) -> Option<usize>
         1 => Some(17),
         3 | 4 => Some(1),
         _ => None,
+    }
+}
+
+// How many bytes the first of a row of calls takes.
+fn end_of_first(calls: &[u8]) -> usize
+    ensures value { λ r. ⌜ r ≡ first-extent (now (calls .entry)) ⌝ }
+    ensures within { λ r. ⌜ r ≤ length (now (calls .entry)) ⌝ }
+{
+    if calls.is_empty() {
+        return 0;
+    }
+    match extent(calls[0]) {
+        Some(extent) => extent.min(calls.len()),
+        None => calls.len(),
     }
 }
 
@@ -86,6 +110,14 @@ fn kind_of(bytes: &[u8]) -> Result<u8, u32>
     Ok(kind)
 }
 
+// The place that stands in a row of bytes. Every place of 2^32 and more is the last of 32 bits: no claim is at either.
+fn place_at(bytes: &[u8], at: usize) -> u32
+    requires { ⌜ at + 8 ≤ length (now bytes) ⌝ }
+    ensures { λ r. ⌜ r ≡ min (number-at (now (bytes .entry)) at) 4294967295 ⌝ }
+{
+    u32::try_from(number_at(bytes, at)).unwrap_or(u32::MAX)
+}
+
 // The call that these bytes are, which are those of a call of this kind.
 fn call_at(kind: u8, bytes: &[u8]) -> Call
     requires { ⌜ Whole kind (now bytes) ⌝ }
@@ -93,7 +125,7 @@ fn call_at(kind: u8, bytes: &[u8]) -> Call
 {
     match kind {
         0 => Call::Claim(number_at(bytes, 1)),
-        1 => Call::Prove(u32::try_from(number_at(bytes, 1)).unwrap_or(u32::MAX), number_at(bytes, 9)),
+        1 => Call::Prove(place_at(bytes, 1), number_at(bytes, 9)),
         2 => Call::Come(number_at(bytes, 1)),
         3 => Call::Shares,
         _ => Call::Cents,

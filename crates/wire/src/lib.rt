@@ -3,6 +3,7 @@ mod answers;
 mod calls;
 mod refusals;
 mod rows;
+
 pub use answers::Answer;
 pub use calls::Call;
 pub use refusals::Refusal;
