@@ -15,3 +15,4 @@ pub mod Changes
 pub mod Right
 pub mod Desks
 pub mod Promises
+pub mod Examples

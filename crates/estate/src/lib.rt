@@ -1,6 +1,9 @@
-// The limits of an estate, as its definitions have them.
+// The limits of an estate, as its definitions have them, and the examples that its definitions are held to.
 ghost use mathlib.Core.Path.{_≡_};
 ghost use lib.Dec.{leb};
+ghost use lib.ListN.{length};
+ghost use Rattle.std.specs.Vec.{Every};
+ghost use Rattle.estate.specs.Examples.{Worked, table};
 ghost use Rattle.estate.specs.Limits.{most-cents};
 
 // The most cents that one claim may be, and that may come at once.
@@ -11,4 +14,12 @@ pub fn may_be(cents: u64) -> bool
     ensures { λ r. ⌜ r ≡ leb cents most-cents ⌝ }
 {
     cents <= MOST_CENTS
+}
+
+// How many worked examples there are. The definitions give each its shares and its cents.
+pub fn worked_examples() -> usize
+    ensures count { λ r. ⌜ r ≡ length table ⌝ }
+    ensures hold { λ _. ⌜ Every Worked table ⌝ }
+{
+    8
 }

@@ -1,6 +1,6 @@
 -- Numbers to bytes and back. Assumes nothing.
 use mathlib.Core.Path.{_≡_, refl, sym, ap, subst, _∙_}
-use mathlib.Core.Logic.{⊎-elim}
+use mathlib.Core.Logic.{_⊎_, inl, inr}
 use mathlib.Core.List.{List, [], _∷_, _++_, append-assoc}
 use Prim.Native.Nat.{ℕ, zero, suc, _+_, _*_, _-_, _/_, _%_, _^_, _≤_, _<_}
 use native.Mathlib.Omega.{arith}
@@ -36,8 +36,11 @@ low-first-value (b ∷ bs) h =
     rw (low, high, low-first-value bs (λ i. h (suc i)))
 
 pub bytes-take : (n : ℕ) (bs : List ℕ) → n ≤ length bs → Bytes bs → Bytes (take n bs)
-bytes-take n bs fits h i =
-    ⊎-elim (λ (lt : i < n). omega (arith, getD-take n bs i 0 lt, h i)) (λ (ge : n ≤ i). omega (arith, getD-past (take n bs) i 0 (omega (arith, length-take-le n bs fits)))) (cases-lt i n)
+bytes-take n bs fits h i = at-order (cases-lt i n)
+  where
+    at-order : (i < n) ⊎ (n ≤ i) → getD (take n bs) i 0 < 256
+    at-order (inl lt) = omega (arith, getD-take n bs i 0 lt, h i)
+    at-order (inr ge) = omega (arith, getD-past (take n bs) i 0 (omega (arith, length-take-le n bs fits)))
 
 pub bytes-drop : (n : ℕ) (bs : List ℕ) → Bytes bs → Bytes (drop n bs)
 bytes-drop n bs h i = omega (arith, getD-drop n bs i 0, h (n + i))
@@ -139,7 +142,8 @@ put-more ns i before part bytes lt room h e =
     let next : 8 * i + 8 ≡ 8 * (i + 1) = omega arith in
     let shut : take (8 * i) part ≡ joined eight (take i ns) = ap (take (8 * i)) h ∙ take-at _ _ (8 * i) long in
     let open′ : drop (8 * i) part ≡ drop (8 * i) before = ap (drop (8 * i)) h ∙ drop-at _ _ (8 * i) long in
-    rw (shut, open′, eights, drop-drop 8 (8 * i) before, next, e, take-more ns i 0 lt, ← joined-more eight [] (take i ns) (getD ns i 0), append-assoc)
+    let more = joined-more eight [] (take i ns) (getD ns i 0) in
+    rw (shut, open′, eights, drop-drop 8 (8 * i) before, next, e, take-more ns i 0 lt, ← more) (sym (append-assoc (joined eight (take i ns)) (eight (getD ns i 0)) _))
 
 pub put-all : (ns : List ℕ) (i : ℕ) (before part : List ℕ) → length ns ≡ i → part ≡ joined eight (take i ns) ++ drop (8 * i) before → part ≡ joined eight ns ++ drop (8 * length ns) before
 put-all ns i before part all h =

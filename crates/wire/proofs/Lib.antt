@@ -1,5 +1,6 @@
 pub mod Bytes
-pub mod CallRows
-pub mod Narrow
 pub mod Parts
+pub mod CallRows
+pub mod Misfits
+pub mod Narrow
 pub mod AnswerRows

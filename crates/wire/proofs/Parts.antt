@@ -7,11 +7,9 @@ use lib.ListN.{length, take, drop, set, length-append, length-drop, length-set}
 use borrow.Rule.Slice.PartMut.{putMid}
 use Rattle.std.specs.Joined.{joined}
 use Rattle.std.proofs.shelf.Lists.{take-rest, take-at, take-more-set, drop-all, drop-at, drop-drop, drop-set-lt}
-use Rattle.std.specs.declared.result.Result.{Result}
-use Rattle.wire.specs.declared.refusals.Refusal.{Refusal}
 use Rattle.wire.specs.declared.refusals.Refusal.the-variants.{NotLent}
 use Rattle.wire.specs.Bytes.{eight, row}
-use Rattle.wire.specs.Written.{Stands, Left, Written}
+use Rattle.wire.specs.Written.{Stands, Left}
 use Rattle.wire.proofs.Bytes.{length-joined}
 
 joined-append : (xs ys : List ℕ) → joined eight (xs ++ ys) ≡ joined eight xs ++ joined eight ys
@@ -63,6 +61,3 @@ module _ (k : ℕ) (hs ls out p q : List ℕ) where
     short = omega (arith, length-row k (hs ++ ls), length-append hs ls);
     same = refl;
   }
-
-pub written-as : (r s out left : List ℕ) (n : Result ℕ Refusal) → s ≡ r → Written r out left n → Written s out left n
-written-as r s out left n e h = subst (λ (l : List ℕ). Written l out left n) (sym e) h

@@ -1,7 +1,8 @@
 use native.Mathlib.Omega.{arith}
 use mathlib.Core.Path.{sym, ap}
 use Rattle.wire.specs.Calls.{narrow}
-use Rattle.wire.proofs.CallRows.{heard-by, one-call}
+use Rattle.wire.proofs.CallRows.{one-call}
+use Rattle.wire.proofs.Misfits.{heard-by}
 use Rattle.wire.proofs.Narrow.{narrow-enough}
 use Rattle.wire.proofs.calls.Call.decode.Needs as need
 

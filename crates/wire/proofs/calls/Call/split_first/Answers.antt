@@ -5,7 +5,7 @@ use lib.ListN.{take, drop}
 use Rattle.std.proofs.shelf.Lists.{take-rest}
 use Rattle.wire.specs.Calls.{first-extent, Heard}
 use Rattle.wire.specs.Meaning.{heard}
-use Rattle.wire.proofs.CallRows.{split-by}
+use Rattle.wire.proofs.Misfits.{split-by}
 use Rattle.wire.proofs.calls.Call.split_first.Needs as need
 
 pub returns : need.returns
