@@ -1,7 +1,7 @@
 -- What a call makes of an estate. Assumes nothing.
 use mathlib.Core.Bool.{cond}
 use mathlib.Core.List.{List, [], _∷_, _++_}
-use Prim.Native.Nat.{ℕ, _+_}
+use Prim.Native.Nat.{_+_}
 use lib.Dec.{eqb}
 use lib.ListN.{set}
 use Rattle.estate.specs.Calls.{Call, claims, proves, comes, shares, cents, garbled}

@@ -1,6 +1,6 @@
 -- Answers to rows of bytes and back. Assumes nothing.
 use mathlib.Core.Path.{_≡_, refl, sym, ap, subst, _∙_}
-use mathlib.Core.List.{List, [], _∷_, _++_, append-nil}
+use mathlib.Core.List.{List, [], _∷_, append-nil}
 use Prim.Native.Nat.{ℕ, zero, suc, _+_, _*_, _-_, _/_, _%_, _≤_, _<_}
 use native.Mathlib.Omega.{arith}
 use lib.ListN.{length, getD, take, drop, length-drop}
@@ -16,10 +16,10 @@ use Rattle.estate.specs.Answers.{Answer, refused, number, parts, amounts}
 use Rattle.wire.specs.declared.refusals.Refusal.{Refusal}
 use Rattle.wire.specs.declared.refusals.Refusal.the-variants.{Unreadable, TooLarge, NotLent, NotThere, NoRoom}
 use Rattle.wire.specs.Bytes.{Bytes, Fitting, eight, numbers, row}
-use Rattle.wire.specs.Answers.{kind, fields, answer-row, Listed, Sendable, Shaped, Received}
+use Rattle.wire.specs.Answers.{kind, fields, Shaped, Received}
 use Rattle.wire.specs.Meaning.{refusal-number}
 use Rattle.wire.specs.Laws.{One-answer, Answer-back}
-use Rattle.wire.proofs.Bytes.{length-joined, numbers-joined, joined-numbers, fitting-numbers, bytes-drop}
+use Rattle.wire.proofs.Bytes.{length-joined, numbers-joined, joined-numbers, fitting-numbers}
 use Rattle.wire.proofs.Parts.{length-row}
 
 -- an answer from its kind and its numbers

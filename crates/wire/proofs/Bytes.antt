@@ -1,16 +1,18 @@
 -- Numbers to bytes and back. Assumes nothing.
-use mathlib.Core.Path.{_≡_, refl, sym, ap, subst, _∙_}
+use mathlib.Core.Path.{_≡_, refl, sym, ap, _∙_}
 use mathlib.Core.Logic.{_⊎_, inl, inr}
 use mathlib.Core.List.{List, [], _∷_, _++_, append-assoc}
 use Prim.Native.Nat.{ℕ, zero, suc, _+_, _*_, _-_, _/_, _%_, _^_, _≤_, _<_}
 use native.Mathlib.Omega.{arith}
-use native.Mathlib.Nat.{add-zero, pow-succ', div-div-eq-div-mul}
+use native.Mathlib.Nat.{pow-succ', div-div-eq-div-mul}
 use lib.ListN.{length, getD, take, drop, replicate, length-append, length-drop, take-append-drop}
+use mir.Syntax.{w64}
+use mir.Val.{Fits}
 use borrow.Rule.Slice.PartMut.{putMid}
 use Rattle.std.specs.Joined.{joined}
 use Rattle.std.proofs.shelf.Lists.{length-take-le, getD-take, getD-drop, getD-past, drop-more, drop-all, drop-drop, take-more, take-all, take-at, drop-at, joined-more}
 use Rattle.std.proofs.shelf.Tests.{cases-lt}
-use Rattle.wire.specs.Bytes.{Bytes, Fitting, low-first, eight, value, number-at, numbers, row}
+use Rattle.wire.specs.Bytes.{Below, Bytes, Fitting, low-first, eight, value, number-at, numbers}
 
 pub length-low-first : (k n : ℕ) → length (low-first k n) ≡ k
 unfolding low-first
@@ -45,10 +47,15 @@ bytes-take n bs fits h i = at-order (cases-lt i n)
 pub bytes-drop : (n : ℕ) (bs : List ℕ) → Bytes bs → Bytes (drop n bs)
 bytes-drop n bs h i = omega (arith, getD-drop n bs i 0, h (n + i))
 
-pub bytes-append : (xs bs : List ℕ) → Bytes xs → Bytes bs → Bytes (xs ++ bs)
-bytes-append [] bs ha hb i = hb i
-bytes-append (x ∷ xs) bs ha hb zero = ha 0
-bytes-append (x ∷ xs) bs ha hb (suc i) = bytes-append xs bs (λ j. ha (suc j)) hb i
+pub below-append : (m : ℕ) (xs ys : List ℕ) → Below m xs → Below m ys → Below m (xs ++ ys)
+below-append m [] ys hx hy i = hy i
+below-append m (x ∷ xs) ys hx hy zero = hx 0
+below-append m (x ∷ xs) ys hx hy (suc i) = below-append m xs ys (λ j. hx (suc j)) hy i
+
+-- what is known of two slices of `u64`
+pub fitting-both : (xs ys : List ℕ) → ((i : ℕ) → Fits w64 (getD xs i 0)) → ((i : ℕ) → Fits w64 (getD ys i 0)) → Fitting (xs ++ ys)
+fitting-both xs ys hx hy =
+    below-append (2 ^ 64) xs ys (λ i. omega (arith, hx i)) (λ i. omega (arith, hy i))
 
 pub bytes-zeros : (n : ℕ) → Bytes (replicate n 0)
 bytes-zeros zero i = omega arith

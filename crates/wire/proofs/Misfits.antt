@@ -11,7 +11,7 @@ use Rattle.std.proofs.shelf.Ways.{tells}
 use Rattle.estate.specs.Calls.{Call, claims, proves, comes, shares, cents, garbled}
 use Rattle.wire.specs.Bytes.{Bytes, row}
 use Rattle.wire.specs.Calls.{kind, call-row, Sendable, extent, call-at, read, Whole, Begins, First-misfit, first-extent, narrow, Heard, Split}
-use Rattle.wire.proofs.Bytes.{bytes-take, bytes-append, bytes-zeros}
+use Rattle.wire.proofs.Bytes.{bytes-take, below-append, bytes-zeros}
 use Rattle.wire.proofs.CallRows.{read-none, read-unknown, read-short, read-long, read-whole, length-call-row, read-row, row-read}
 
 extent-some : (k : ℕ) → 0 < extent k
@@ -59,7 +59,7 @@ module _ (k : ℕ) (bs : List ℕ) (first : getD bs 0 0 ≡ k) (some : 0 < lengt
   misfit-short short =
       let zeros : List ℕ = replicate (extent k - length bs) 0 in
       let w : Whole k (bs ++ zeros) = record { first = getD-append-left bs zeros 0 0 some ∙ first; known = known; long = omega (arith, length-append bs zeros, length-replicate {A = ℕ} (extent k - length bs) 0) } in
-      let r = row-read k (bs ++ zeros) w (bytes-append bs zeros h (bytes-zeros (extent k - length bs))) in
+      let r = row-read k (bs ++ zeros) w (below-append 256 bs zeros h (bytes-zeros (extent k - length bs))) in
       record {
         within = omega arith;
         before = rw (take-all (length bs) bs (omega arith)) (call-at k (bs ++ zeros), zeros, r .0, r .1);

@@ -8,7 +8,7 @@ use lib.Dec.{leb, eqb}
 use lib.ListN.{length}
 use Rattle.std.proofs.shelf.Tests.{cases-lt, le-ltb}
 use Rattle.estate.specs.Calls.{claims, proves, comes, shares, cents, garbled}
-use Rattle.estate.specs.Answers.{Answer, refused}
+use Rattle.estate.specs.Answers.{refused}
 use Rattle.estate.specs.Limits.{Limits, most-cents}
 use Rattle.estate.specs.Estates.{Estate, counted}
 use Rattle.estate.specs.Changes.{after}

@@ -4,13 +4,16 @@ use Prim.Native.Nat.{ℕ, zero, suc, _+_, _*_, _/_, _%_, _^_, _<_}
 use lib.ListN.{getD, take, drop}
 use Rattle.std.specs.Joined.{joined}
 
--- every one of these is a byte
-abbrev pub Bytes : List ℕ → Type 0
-Bytes bs = (i : ℕ) → getD bs i 0 < 256
+-- each of these is below m
+abbrev pub Below : ℕ → List ℕ → Type 0
+Below m ns = (i : ℕ) → getD ns i 0 < m
 
--- every one of these fits eight bytes
+abbrev pub Bytes : List ℕ → Type 0
+Bytes bs = Below 256 bs
+
+-- each fits eight bytes
 abbrev pub Fitting : List ℕ → Type 0
-Fitting ns = (i : ℕ) → getD ns i 0 < 2 ^ 64
+Fitting ns = Below (2 ^ 64) ns
 
 -- the lowest k bytes of n
 unfoldable pub low-first : ℕ → ℕ → List ℕ

@@ -6,7 +6,7 @@ ghost use lib.ListN.{length, drop};
 ghost use Rattle.std.specs.Of.Vec.{vec-items};
 ghost use Rattle.std.specs.Options.{Cases as BySome, mapped};
 ghost use Rattle.std.specs.Vec.{made};
-ghost use Rattle.wire.specs.Answers.{answer-row, Shaped, Received};
+ghost use Rattle.wire.specs.Answers.{answer-row, Sendable, Shaped, Received};
 ghost use Rattle.wire.specs.Laws.{One-answer, Answer-back};
 ghost use Rattle.wire.specs.Meaning.{told};
 ghost use Rattle.wire.specs.Written.{Written};
@@ -31,7 +31,8 @@ pub enum Answer<L> {
 impl Answer<&[u64]> {
     // Writes the answer at the start of lent bytes, and says how many it takes.
     pub fn encode(self, out: &mut [u8]) -> Result<usize, Refusal>
-        ensures { λ r. ⌜ Written (answer-row (told now (self .entry))) (now (out .entry)) (now (out .exit)) r ⌝ }
+        ensures written { λ r. ⌜ Written (answer-row (told now (self .entry))) (now (out .entry)) (now (out .exit)) r ⌝ }
+        ensures sendable { λ _. ⌜ Sendable (told now (self .entry)) ⌝ }
     {
         match self {
             Answer::Refused(refusal, place) => put(

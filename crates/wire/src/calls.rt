@@ -6,7 +6,7 @@ ghost use Rattle.std.specs.Options.{Cases as BySome};
 ghost use Rattle.std.specs.Results.{Cases};
 ghost use Rattle.estate.specs.Calls.{garbled};
 ghost use Rattle.wire.specs.Bytes.{number-at};
-ghost use Rattle.wire.specs.Calls.{call-row, read, narrow, Whole, Heard, first-extent, Split, extent as extent-of};
+ghost use Rattle.wire.specs.Calls.{call-row, Sendable, read, narrow, Whole, Heard, first-extent, Split, extent as extent-of};
 ghost use Rattle.wire.specs.Laws.{One-call, Narrow-enough};
 ghost use Rattle.wire.specs.Meaning.{meaning, heard};
 ghost use Rattle.wire.specs.Written.{Written};
@@ -31,7 +31,8 @@ pub enum Call {
 impl Call {
     // Writes the call at the start of lent bytes, and says how many it takes.
     pub fn encode(self, out: &mut [u8]) -> Result<usize, Refusal>
-        ensures { λ r. ⌜ Written (call-row (meaning self)) (now (out .entry)) (now (out .exit)) r ⌝ }
+        ensures written { λ r. ⌜ Written (call-row (meaning self)) (now (out .entry)) (now (out .exit)) r ⌝ }
+        ensures sendable { λ _. ⌜ Sendable (meaning self) × (narrow (meaning self) ≡ meaning self) ⌝ }
     {
         match self {
             Call::Claim(cents) => put(out, 0, &[cents], &[]),

@@ -6,7 +6,7 @@ ghost use lib.ListN.{length, take, drop};
 ghost use Rattle.std.specs.Joined.{joined};
 ghost use Rattle.std.specs.Of.Vec.{vec-items};
 ghost use Rattle.std.specs.Vec.{made};
-ghost use Rattle.wire.specs.Bytes.{eight, value, numbers, row};
+ghost use Rattle.wire.specs.Bytes.{Fitting, eight, value, numbers, row};
 ghost use Rattle.wire.specs.Written.{Written};
 use crate::refusals::Refusal;
 use std::alloc::AllocError;
@@ -33,7 +33,8 @@ fn put_numbers(part: &mut [u8], list: &[u64])
 
 // Writes a row: its kind, the numbers of its head and, in the part behind them, those of its list.
 pub(crate) fn put(out: &mut [u8], kind: u8, head: &[u64], list: &[u64]) -> Result<usize, Refusal>
-    ensures { λ r. ⌜ Written (row kind (now (head .entry) ++ now (list .entry))) (now (out .entry)) (now (out .exit)) r ⌝ }
+    ensures written { λ r. ⌜ Written (row kind (now (head .entry) ++ now (list .entry))) (now (out .entry)) (now (out .exit)) r ⌝ }
+    ensures fit { λ _. ⌜ Fitting (now (head .entry) ++ now (list .entry)) ⌝ }
 {
     let start = 1 + 8 * head.len();
     let end = start + 8 * list.len();

@@ -1,5 +1,4 @@
-use mathlib.Core.Path.{refl, _∙_}
-use Prim.Native.Nat.{ℕ}
+use mathlib.Core.Path.{refl}
 use native.Mathlib.Omega.{arith}
 use Rattle.wire.proofs.AnswerRows.{two-are, refusal-listed}
 use Rattle.wire.proofs.answers.refused.Needs as need

@@ -1,6 +1,6 @@
 use mathlib.Core.Path.{ap, _∙_}
 use native.Mathlib.Omega.{arith}
-use Rattle.estate.specs.Calls.{claims, proves, comes}
+use Rattle.estate.specs.Calls.{claims, comes}
 use Rattle.wire.proofs.CallRows.{call-is}
 use Rattle.wire.proofs.calls.call_at.Needs as need
 
