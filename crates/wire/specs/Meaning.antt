@@ -1,6 +1,6 @@
 -- What the code's calls, answers and refusals stand for. Assumes nothing.
-use mathlib.Core.List.{List}
 use Prim.Native.Nat.{ℕ}
+use Rattle.std.specs.Of.Vec.{vec-items}
 use Rattle.std.specs.declared.result.Result.{Result}
 use Rattle.std.specs.declared.result.Result.the-variants.{Ok, Err}
 use Rattle.estate.specs.Calls as calls
@@ -32,9 +32,8 @@ refusal-number NotLent = not-lent
 refusal-number NotThere = not-there
 refusal-number NoRoom = no-room
 
--- an answer whose lists are held as L
-abbrev pub told : {L : Type 0} → (L → List ℕ) → Answer L → answers.Answer
-told f (Refused r p) = answers.refused (refusal-number r) p
-told f (Number n) = answers.number n
-told f (Parts d xs) = answers.parts d (f xs)
-told f (Amounts xs) = answers.amounts (f xs)
+abbrev pub told : Answer → answers.Answer
+told (Refused r p) = answers.refused (refusal-number r) p
+told (Number n) = answers.number n
+told (Parts d xs) = answers.parts d (vec-items xs)
+told (Amounts xs) = answers.amounts (vec-items xs)

@@ -5,6 +5,8 @@ use Prim.Native.Nat.{ℕ, _≤_, _<_}
 use lib.ListN.{length, drop}
 use Rattle.std.specs.declared.result.Result.{Result}
 use Rattle.std.specs.declared.result.Result.the-variants.{Ok, Err}
+use Rattle.estate.specs.Answers.{Answer}
+use Rattle.wire.specs.Answers.{answer-row, Sendable}
 use Rattle.wire.specs.declared.refusals.Refusal.{Refusal}
 use Rattle.wire.specs.declared.refusals.Refusal.the-variants.{NotLent}
 
@@ -23,3 +25,8 @@ pub record Left (row before behind : List ℕ) (why : Refusal) : Type 0 where
 abbrev pub Written : List ℕ → List ℕ → List ℕ → Result ℕ Refusal → Type 0
 Written row before behind (Ok n) = Stands row before behind n
 Written row before behind (Err why) = Left row before behind why
+
+-- an answer was written, and it is one that can be read back
+pub record Sent (a : Answer) (before behind : List ℕ) (r : Result ℕ Refusal) : Type 0 where
+  pub written : Written (answer-row a) before behind r
+  pub sendable : Sendable a

@@ -1,11 +1,10 @@
 use mathlib.Core.Path.{_∙_}
 use native.Mathlib.Omega.{arith}
-use Rattle.std.specs.Of.Vec.{vec-items}
 use Rattle.std.specs.Options.{mapped}
 use Rattle.std.proofs.shelf.Results.{made-from-err}
 use Rattle.wire.specs.Meaning.{told}
 use Rattle.wire.proofs.AnswerRows.{one-answer, answer-back, received-none, received-made}
-use Rattle.wire.proofs.answers.Answer+Vec+u64.decode.Needs as need
+use Rattle.wire.proofs.answers.Answer.decode.Needs as need
 
 pub returns-then-bytes-ne1 : need.returns-then-bytes-ne1
 returns-then-bytes-ne1 c = record {
@@ -23,7 +22,7 @@ returns-in-Break-list c = record {
 
 pub returns : need.returns
 returns c = record {
-  said = received-made (mapped (told vec-items)) (c .answer-of .result) _ _ (c .if-bytes-ne1 .left) (λ i. omega (arith, c .typed .bytes i)) (c .as-slice .ensures .value ∙ c .in-Continue-list .ensures tt) (c .answer-of .ensures);
+  said = received-made (mapped told) (c .answer-of .result) _ _ (c .if-bytes-ne1 .left) (λ i. omega (arith, c .typed .bytes i)) (c .as-slice .ensures .value ∙ c .in-Continue-list .ensures tt) (c .answer-of .ensures);
   back = answer-back;
   unique = one-answer;
 }

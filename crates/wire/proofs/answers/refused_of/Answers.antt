@@ -1,7 +1,7 @@
 use mathlib.Core.Path.{refl}
 use native.Mathlib.Omega.{arith}
 use Rattle.wire.proofs.AnswerRows.{two-are, refusal-listed}
-use Rattle.wire.proofs.answers.refused.Needs as need
+use Rattle.wire.proofs.answers.refused_of.Needs as need
 
 pub returns : need.returns
 returns c =
