@@ -7,35 +7,29 @@ use lib.ListN.{length, getD}
 use Rattle.std.proofs.shelf.Ways.{tells}
 use Rattle.estate.specs.Calls.{Call, claims, proves, comes, shares, cents, garbled}
 use Rattle.wire.specs.Bytes.{Bytes, Fitting, low-first, numbers, row}
-use Rattle.wire.specs.Calls.{kind, fields, call-row, Sendable, extent, call-at, read, Whole, narrow}
+use Rattle.wire.specs.Calls.{kind, fields, call-row, Sendable, extent, call-at, read, Whole}
 use Rattle.wire.specs.Laws.{One-call}
 use Rattle.wire.proofs.Bytes.{value-low-first, joined-numbers, fitting-numbers}
 
 pub read-none : (bs : List ℕ) → length bs ≡ 0 → read bs ≡ garbled 0
-unfolding read
 read-none bs h = grind (arith, tells)
 
 module _ (k : ℕ) (bs : List ℕ) (first : getD bs 0 0 ≡ k) where
   pub read-unknown : 4 < k → read bs ≡ garbled 0
-  unfolding read
   read-unknown h = rw first (grind (arith, tells))
 
   module _ (some : 0 < length bs) (known : k ≤ 4) where
     pub read-short : length bs < extent k → read bs ≡ garbled (length bs)
-    unfolding read
     read-short h = rw first (grind (arith, tells))
 
     pub read-long : extent k < length bs → read bs ≡ garbled (extent k)
-    unfolding read
     read-long h = rw first (grind (arith, tells))
 
 pub read-whole : (k : ℕ) (bs : List ℕ) → Whole k bs → read bs ≡ call-at k bs
-unfolding read
 read-whole k bs w = rw (w .first) (grind (arith, tells))
 
--- the call of a known kind, as the desk holds it
-pub call-is : (k j : ℕ) (bs : List ℕ) → Whole k bs → k ≡ j → narrow (call-at j bs) ≡ narrow (read bs)
-call-is k j bs w same = ap (λ (i : ℕ). narrow (call-at i bs)) (sym same) ∙ sym (ap narrow (read-whole k bs w))
+pub extent-some : (k : ℕ) → 0 < extent k
+extent-some k = grind (arith, tells)
 
 pub length-call-row : (c : Call) → length (call-row c) ≡ extent (kind c)
 unfolding row low-first
@@ -48,7 +42,7 @@ length-call-row (garbled n) = refl
 
 -- the call that was written is the one that is read
 pub read-row : (c : Call) → Sendable c → read (call-row c) ≡ c
-unfolding row low-first read
+unfolding row low-first
 read-row (claims c) h = ap claims (value-low-first 8 c (h .fitting 0))
 read-row (proves i c) h =
     rw (value-low-first 8 i (h .fitting 0), value-low-first 8 c (h .fitting 1))
@@ -69,20 +63,17 @@ module _ (k n b : ℕ) (bs : List ℕ) (same : b ≡ k) (known : k < 5) (long : 
     rw (e, f, joined-numbers n bs long h, same),
   )
 
-pub row-read : (k : ℕ) (bs : List ℕ) → Whole k bs → Bytes bs → Sendable (call-at k bs) × (call-row (call-at k bs) ≡ bs)
+row-at : (k b : ℕ) (bs : List ℕ) → b ≡ k → k ≤ 4 → suc (length bs) ≡ extent k → Bytes bs → Sendable (call-at k (b ∷ bs)) × (call-row (call-at k (b ∷ bs)) ≡ b ∷ bs)
 unfolding numbers
-row-read zero (b ∷ bs) w h = row-of 0 1 b bs (w .first) (omega arith) (omega (arith, w .long)) (λ i. h (suc i)) _ refl refl
-row-read (suc zero) (b ∷ bs) w h =
-    row-of 1 2 b bs (w .first) (omega arith) (omega (arith, w .long)) (λ i. h (suc i)) _ refl refl
-row-read (suc (suc zero)) (b ∷ bs) w h =
-    row-of 2 1 b bs (w .first) (omega arith) (omega (arith, w .long)) (λ i. h (suc i)) _ refl refl
-row-read (suc (suc (suc zero))) (b ∷ bs) w h =
-    row-of 3 0 b bs (w .first) (omega arith) (omega (arith, w .long)) (λ i. h (suc i)) _ refl refl
-row-read (suc (suc (suc (suc zero)))) (b ∷ bs) w h =
-    row-of 4 0 b bs (w .first) (omega arith) (omega (arith, w .long)) (λ i. h (suc i)) _ refl refl
-row-read (suc (suc (suc (suc (suc k))))) bs w h = absurd (omega (arith, w .known))
-row-read zero [] w h = absurd (omega (arith, w .long))
-row-read (suc zero) [] w h = absurd (omega (arith, w .long))
-row-read (suc (suc zero)) [] w h = absurd (omega (arith, w .long))
-row-read (suc (suc (suc zero))) [] w h = absurd (omega (arith, w .long))
-row-read (suc (suc (suc (suc zero)))) [] w h = absurd (omega (arith, w .long))
+row-at zero b bs same known long h = row-of 0 1 b bs same (omega arith) (omega arith) h _ refl refl
+row-at (suc zero) b bs same known long h = row-of 1 2 b bs same (omega arith) (omega arith) h _ refl refl
+row-at (suc (suc zero)) b bs same known long h = row-of 2 1 b bs same (omega arith) (omega arith) h _ refl refl
+row-at (suc (suc (suc zero))) b bs same known long h =
+    row-of 3 0 b bs same (omega arith) (omega arith) h _ refl refl
+row-at (suc (suc (suc (suc zero)))) b bs same known long h =
+    row-of 4 0 b bs same (omega arith) (omega arith) h _ refl refl
+row-at (suc (suc (suc (suc (suc k))))) b bs same known long h = absurd (omega arith)
+
+pub row-read : (k : ℕ) (bs : List ℕ) → Whole k bs → Bytes bs → Sendable (call-at k bs) × (call-row (call-at k bs) ≡ bs)
+row-read k [] w h = absurd (omega (arith, w .long, extent-some k))
+row-read k (b ∷ bs) w h = row-at k b bs (w .first) (w .known) (w .long) (λ i. h (suc i))

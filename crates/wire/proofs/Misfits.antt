@@ -12,10 +12,7 @@ use Rattle.estate.specs.Calls.{Call, claims, proves, comes, shares, cents, garb
 use Rattle.wire.specs.Bytes.{Bytes, row}
 use Rattle.wire.specs.Calls.{kind, call-row, Sendable, extent, call-at, read, Whole, Begins, First-misfit, first-extent, narrow, Heard, Split}
 use Rattle.wire.proofs.Bytes.{bytes-take, below-append, bytes-zeros}
-use Rattle.wire.proofs.CallRows.{read-none, read-unknown, read-short, read-long, read-whole, length-call-row, read-row, row-read}
-
-extent-some : (k : ℕ) → 0 < extent k
-extent-some k = grind (arith, tells)
+use Rattle.wire.proofs.CallRows.{read-none, read-unknown, read-short, read-long, read-whole, extent-some, length-call-row, read-row, row-read}
 
 first-kind : (c : Call) (bs : List ℕ) → call-row c ≡ bs → kind c ≡ getD bs 0 0
 unfolding row

@@ -48,7 +48,7 @@ abbrev pub read-as : ℕ → List ℕ → Call
 read-as k bs =
     cond (eqb (length bs) 0 || ltb 4 k) (garbled 0) (cond (ltb (length bs) (extent k)) (garbled (length bs)) (cond (ltb (extent k) (length bs)) (garbled (extent k)) (call-at k bs)))
 
-unfoldable pub read : List ℕ → Call
+abbrev pub read : List ℕ → Call
 read bs = read-as (getD bs 0 0) bs
 
 -- these bytes are those of a call of kind k
