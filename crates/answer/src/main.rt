@@ -7,17 +7,18 @@ ghost use Rattle.estate.specs.Limits.{most-cents};
 ghost use Rattle.wire.specs.Meaning.{heard};
 ghost use Rattle.wire.specs.declared.refusals.Refusal.the-variants.{TooLarge};
 ghost use Rattle.answer.specs.Early.{Early};
-use estate::may_be;
+use estate::cents_allowed;
 use std::env;
 use std::error::AnyError;
 use std::fs;
 use std::io;
 use std::io::Read;
 use wire::Call;
+use wire::Place;
 use wire::Refusal;
 
 // The refusal and the place that a call gets whatever the estate is, if it does.
-fn early_refusal(call: Result<Call, u32>) -> Option<(Refusal, u32)>
+fn early_refusal(call: Result<Call, Place>) -> Option<(Refusal, Place)>
     ensures { λ r. ⌜ Early (heard call) r ⌝ }
 {
     match call {
@@ -31,10 +32,10 @@ fn early_refusal(call: Result<Call, u32>) -> Option<(Refusal, u32)>
 }
 
 // The refusal of too large a number, at a place.
-fn too_large(cents: u64, place: u32) -> Option<(Refusal, u32)>
+fn too_large(cents: u64, place: Place) -> Option<(Refusal, Place)>
     ensures { λ r. ⌜ BySome r (leb cents most-cents ≡ true) (λ x. (leb cents most-cents ≡ false) × (x ≡ (TooLarge, place))) ⌝ }
 {
-    if may_be(cents) {
+    if cents_allowed(cents) {
         None
     } else {
         Some((Refusal::TooLarge, place))

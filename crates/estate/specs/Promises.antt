@@ -2,7 +2,7 @@
 use mathlib.Core.Path.{_≡_}
 use mathlib.Core.Bool.{true}
 use mathlib.Core.List.{List, [], _∷_}
-use Prim.Native.Nat.{ℕ, zero, suc, _+_, _*_, _-_, _≤_, _<_}
+use Prim.Native.Nat.{ℕ, zero, suc, _+_, _*_, _-_, _≤_, _<_, max}
 use lib.ListN.{length, getD}
 use Rattle.estate.specs.Sums.{sum}
 use Rattle.estate.specs.Division.{divides}
@@ -19,10 +19,10 @@ abbrev pub There-is-one : Type 0
 There-is-one =
     (e : ℕ) (cs : List ℕ) → e ≤ sum cs → (d : ℕ) × (xs : List ℕ) × (d ≤ 2 * suc (length cs)) × (divides d e cs xs ≡ true)
 
--- the closed form is one
+-- the closed form is one, in parts of at most twice the creditors
 abbrev pub Closed-divides : Type 0
 Closed-divides =
-    (e : ℕ) (cs : List ℕ) → e ≤ sum cs → (denominator e cs ≤ 2 * suc (length cs)) × (divides (denominator e cs) e cs (division e cs) ≡ true)
+    (e : ℕ) (cs : List ℕ) → e ≤ sum cs → (denominator e cs ≤ max 1 (2 * length cs)) × (divides (denominator e cs) e cs (division e cs) ≡ true)
 
 -- if more is there nobody gets less
 abbrev pub More-there : Type 0

@@ -29,17 +29,18 @@ pub record Check : Type 0 where
   pub holds : Bool
   pub refusal : ℕ
 
+abbrev pub check : Bool → ℕ → Check
+check b n = record { holds = b; refusal = n }
+
 -- what is checked of a call, in the order of the numbers
 abbrev pub checks : Limits → Estate → Call → List Check
 checks l e (claims c) =
-    record { holds = leb c most-cents; refusal = too-large } ∷ record { holds = ltb (length (counted e)) (l .creditors); refusal = no-room } ∷ []
-checks l e (proves i c) =
-    record { holds = leb c most-cents; refusal = too-large } ∷ record { holds = ltb i (length (counted e)); refusal = not-there } ∷ []
-checks l e (comes x) =
-    record { holds = leb x most-cents; refusal = too-large } ∷ record { holds = leb (amount e + x) most-there; refusal = no-room } ∷ []
+    check (leb c most-cents) too-large ∷ check (ltb (length (counted e)) (l .creditors)) no-room ∷ []
+checks l e (proves i c) = check (leb c most-cents) too-large ∷ check (ltb i (length (counted e))) not-there ∷ []
+checks l e (comes x) = check (leb x most-cents) too-large ∷ check (leb (amount e + x) most-there) no-room ∷ []
 checks l e shares = []
 checks l e cents = []
-checks l e (garbled n) = record { holds = false; refusal = unreadable } ∷ []
+checks l e (garbled n) = check false unreadable ∷ []
 
 -- the first refusal of a row of checks, or 0
 abbrev pub first-refusal : List Check → ℕ

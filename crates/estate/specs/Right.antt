@@ -11,7 +11,7 @@ use Rattle.estate.specs.Calls.{Call, claims, proves, comes, shares, cents, gar
 use Rattle.estate.specs.Answers.{Answer, refused, number, parts, amounts}
 use Rattle.estate.specs.Limits.{Limits}
 use Rattle.estate.specs.Estates.{Estate, amount, counted, divided, Shared}
-use Rattle.estate.specs.Refusals.{turned, place}
+use Rattle.estate.specs.Refusals.{unreadable, turned, place}
 
 -- What may be answered to a call that is not turned away: of a claim, how many there were before it; shares that divide,
 -- in parts of which a cent has at most twice one more than there are creditors; whole cents that come of any division.
@@ -39,7 +39,7 @@ says e (comes x) = number (amount e + x)
 says e shares = parts (denominator (divided e) (counted e)) (division (divided e) (counted e))
 says e cents =
     amounts (in-cents (denominator (divided e) (counted e)) (divided e) (division (divided e) (counted e)))
-says e (garbled n) = refused 1 n
+says e (garbled n) = refused unreadable n
 
 abbrev pub answered : Limits → Estate → Call → Answer
 answered l e c = cond (eqb (turned l e c) 0) (says e c) (refused (turned l e c) (place c (turned l e c)))

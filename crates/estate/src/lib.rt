@@ -10,7 +10,7 @@ ghost use Rattle.estate.specs.Limits.{most-cents};
 pub const MOST_CENTS: u64 = 1_000_000_000;
 
 // Whether one claim may be so many cents, and so many may come at once.
-pub fn may_be(cents: u64) -> bool
+pub fn cents_allowed(cents: u64) -> bool
     ensures { λ r. ⌜ r ≡ leb cents most-cents ⌝ }
 {
     cents <= MOST_CENTS

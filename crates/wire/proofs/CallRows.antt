@@ -7,7 +7,8 @@ use lib.ListN.{length, getD}
 use Rattle.std.proofs.shelf.Ways.{tells}
 use Rattle.estate.specs.Calls.{Call, claims, proves, comes, shares, cents, garbled}
 use Rattle.wire.specs.Bytes.{Bytes, Fitting, low-first, numbers, row}
-use Rattle.wire.specs.Calls.{kind, fields, call-row, Sendable, extent, call-at, read, Whole}
+use Rattle.wire.specs.Calls.{kind, fields, call-row, Sendable, extent}
+use Rattle.wire.specs.Reading.{call-at, read, Whole}
 use Rattle.wire.specs.Laws.{One-call}
 use Rattle.wire.proofs.Bytes.{value-low-first, joined-numbers, fitting-numbers}
 

@@ -10,7 +10,8 @@ use Rattle.std.proofs.shelf.Tests.{cases-lt, cases-order}
 use Rattle.std.proofs.shelf.Ways.{tells}
 use Rattle.estate.specs.Calls.{Call, claims, proves, comes, shares, cents, garbled}
 use Rattle.wire.specs.Bytes.{Bytes, row}
-use Rattle.wire.specs.Calls.{kind, call-row, Sendable, extent, call-at, read, Whole, Begins, First-misfit, first-extent, narrow, Heard, Split}
+use Rattle.wire.specs.Calls.{kind, call-row, Sendable, extent, narrow}
+use Rattle.wire.specs.Reading.{call-at, read, Whole, Begins, First-misfit, first-extent, Heard, Split}
 use Rattle.wire.proofs.Bytes.{bytes-take, below-append, bytes-zeros}
 use Rattle.wire.proofs.CallRows.{read-none, read-unknown, read-short, read-long, read-whole, extent-some, length-call-row, read-row, row-read}
 

@@ -1,5 +1,6 @@
 pub mod Bytes
 pub mod Calls
+pub mod Reading
 pub mod Answers
 pub mod Meaning
 pub mod Written

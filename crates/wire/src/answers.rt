@@ -11,6 +11,7 @@ ghost use Rattle.wire.specs.Answers.{Shaped, Received};
 ghost use Rattle.wire.specs.Laws.{One-answer, Answer-back};
 ghost use Rattle.wire.specs.Meaning.{told, refusal-number};
 ghost use Rattle.wire.specs.Written.{Sent};
+use crate::refusals::Place;
 use crate::refusals::Refusal;
 use crate::refusals::RefusalDebug;
 use crate::refusals::RefusalEq;
@@ -23,7 +24,7 @@ use std::alloc::Global;
 #[derive(Debug, PartialEq, Eq, Drop)]
 pub enum Answer {
     // why a call was turned away, and where
-    Refused(Refusal, u32),
+    Refused(Refusal, Place),
     Number(u64),
     // the parts of a cent, and how many of them each creditor has
     Parts(u64, Vec<u64>),
@@ -59,12 +60,13 @@ impl Answer {
 }
 
 // Writes that a call was turned away.
-pub fn encode_refused(refusal: Refusal, place: u32, out: &mut [u8]) -> Result<usize, Refusal>
+pub fn encode_refused(refusal: Refusal, place: Place, out: &mut [u8]) -> Result<usize, Refusal>
     ensures { λ r. ⌜ Sent (refused (refusal-number refusal) place) (now (out .entry)) (now (out .exit)) r ⌝ }
 {
     put(out, 0, &[refusal.number(), u64::from(place)], &[])
 }
 
+// Writes a number.
 pub fn encode_number(n: u64, out: &mut [u8]) -> Result<usize, Refusal>
     ensures { λ r. ⌜ Sent (number n) (now (out .entry)) (now (out .exit)) r ⌝ }
 {

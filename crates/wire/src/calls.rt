@@ -6,10 +6,12 @@ ghost use Rattle.std.specs.Options.{Cases as BySome};
 ghost use Rattle.std.specs.Results.{Cases};
 ghost use Rattle.estate.specs.Calls.{garbled};
 ghost use Rattle.wire.specs.Bytes.{number-at};
-ghost use Rattle.wire.specs.Calls.{call-row, Sendable, read, narrow, Whole, Heard, first-extent, Split, extent as extent-of};
+ghost use Rattle.wire.specs.Calls.{call-row, Sendable, narrow, extent as extent-of};
+ghost use Rattle.wire.specs.Reading.{read, Whole, Heard, first-extent, Split};
 ghost use Rattle.wire.specs.Laws.{One-call, Narrow-enough};
 ghost use Rattle.wire.specs.Meaning.{meaning, heard};
 ghost use Rattle.wire.specs.Written.{Written};
+use crate::refusals::Place;
 use crate::refusals::Refusal;
 use crate::rows::number_at;
 use crate::rows::put;
@@ -19,7 +21,7 @@ pub enum Call {
     // a claim of so many cents, last
     Claim(u64),
     // the claim at this place is so many cents from now on
-    Prove(u32, u64),
+    Prove(Place, u64),
     // so many cents more are there
     Come(u64),
     // what each creditor has, in parts of a cent
@@ -45,19 +47,17 @@ impl Call {
 
     // The call that these bytes are, or the place of the first byte that does not fit. A place of 2^32 or more is held as
     // the last of 32 bits, which no desk has either.
-    pub fn decode(bytes: &[u8]) -> Result<Call, u32>
+    pub fn decode(bytes: &[u8]) -> Result<Call, Place>
         ensures said { λ r. ⌜ Heard (now (bytes .entry)) (heard r) ⌝ }
         ensures unique { λ _. ⌜ One-call ⌝ }
         ensures enough { λ _. ⌜ Narrow-enough ⌝ }
     {
-        match kind_of(bytes) {
-            Ok(kind) => Ok(call_at(kind, bytes)),
-            Err(place) => Err(place),
-        }
+        let kind = kind_of(bytes)?;
+        Ok(call_at(kind, bytes))
     }
 
     // The first of a row of calls with nothing between them, and the bytes behind it. Where it cannot be read none are left.
-    pub fn split_first(calls: &[u8]) -> (Result<Call, u32>, &[u8])
+    pub fn split_first(calls: &[u8]) -> (Result<Call, Place>, &[u8])
         ensures { λ r. ⌜ Split (now (calls .entry)) (heard (r .0)) (now (r .1)) ⌝ }
     {
         let end = end_of_first(calls);
@@ -92,7 +92,7 @@ fn end_of_first(calls: &[u8]) -> usize
 }
 
 // The kind of the call that these bytes are, or the place of the first byte that does not fit.
-fn kind_of(bytes: &[u8]) -> Result<u8, u32>
+fn kind_of(bytes: &[u8]) -> Result<u8, Place>
     ensures { λ r. ⌜ Cases r (λ k. Whole k (now (bytes .entry))) (λ p. read (now (bytes .entry)) ≡ garbled p) ⌝ }
 {
     if bytes.is_empty() {
@@ -112,7 +112,7 @@ fn kind_of(bytes: &[u8]) -> Result<u8, u32>
 }
 
 // The place that stands in a row of bytes. Every place of 2^32 and more is the last of 32 bits: no claim is at either.
-fn place_at(bytes: &[u8], at: usize) -> u32
+fn place_at(bytes: &[u8], at: usize) -> Place
     requires { ⌜ at + 8 ≤ length (now bytes) ⌝ }
     ensures { λ r. ⌜ r ≡ min (number-at (now (bytes .entry)) at) 4294967295 ⌝ }
 {

@@ -14,6 +14,7 @@ pub use answers::encode_refused;
 pub use calls::Call;
 pub use calls::CallDebug;
 pub use calls::CallPartialEq;
+pub use refusals::Place;
 pub use refusals::Refusal;
 pub use refusals::RefusalDebug;
 pub use refusals::RefusalPartialEq;

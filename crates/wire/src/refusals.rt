@@ -1,9 +1,12 @@
-// Why a call is turned away.
+// Why a call is turned away, and where.
 ghost use mathlib.Core.Path.{_≡_};
 ghost use mathlib.Core.Logic.{_⊎_};
 ghost use Prim.Native.Nat.{_<_};
 ghost use Rattle.std.specs.Options.{Cases as BySome};
 ghost use Rattle.wire.specs.Meaning.{refusal-number};
+
+// The place of a claim, or the place in a call at which it is refused, counted from 0.
+pub type Place = u32;
 
 #[derive(Clone, Copy, Debug, PartialEq, Eq)]
 pub enum Refusal {

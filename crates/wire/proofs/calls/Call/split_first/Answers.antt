@@ -3,7 +3,7 @@ use Prim.Native.Nat.{ℕ, _-_}
 use native.Mathlib.Omega.{arith}
 use lib.ListN.{take, drop}
 use Rattle.std.proofs.shelf.Lists.{take-rest}
-use Rattle.wire.specs.Calls.{first-extent, Heard}
+use Rattle.wire.specs.Reading.{first-extent, Heard}
 use Rattle.wire.specs.Meaning.{heard}
 use Rattle.wire.proofs.Misfits.{split-by}
 use Rattle.wire.proofs.calls.Call.split_first.Needs as need
