@@ -47,7 +47,7 @@ module _ (k : ℕ) (ns rest : List ℕ) (fit : Fitting ns) where
   row-numbers j e =
       let same : joined eight ns ≡ rest = ap (λ (l : List ℕ). drop 1 l) e in
       let long : length rest / 8 ≡ length ns = omega (arith, length-joined ns, ap length same) in
-      rw (long, ← same, ← append-nil (joined eight ns)) (numbers-joined ns [] fit)
+      rw (long, ← same) (numbers-joined ns fit)
 
 pub one-answer : One-answer
 unfolding row

@@ -4,32 +4,37 @@ use mathlib.Core.Logic.{_⊎_, inl, inr}
 use mathlib.Core.List.{List, [], _∷_, _++_, append-assoc}
 use Prim.Native.Nat.{ℕ, zero, suc, _+_, _*_, _-_, _/_, _%_, _^_, _≤_, _<_}
 use native.Mathlib.Omega.{arith}
-use native.Mathlib.Nat.{pow-succ', div-div-eq-div-mul}
+use native.Mathlib.Nat.{add-zero, add-assoc, pow-succ', div-div-eq-div-mul}
 use lib.ListN.{length, getD, take, drop, replicate, length-append, length-drop, take-append-drop}
 use mir.Syntax.{w64}
 use mir.Val.{Fits}
 use borrow.Rule.Slice.PartMut.{putMid}
 use Rattle.std.specs.Joined.{joined}
-use Rattle.std.proofs.shelf.Lists.{length-take-le, getD-take, getD-drop, getD-past, drop-more, drop-all, drop-drop, take-more, take-all, take-at, drop-at, joined-more}
+use Rattle.std.proofs.shelf.Lists.{length-take-le, getD-take, getD-drop, getD-past, drop-more, drop-drop, nil-from-length, take-more, take-all, take-at, drop-at, joined-more}
 use Rattle.std.proofs.shelf.Tests.{cases-lt}
-use Rattle.wire.specs.Bytes.{Below, Bytes, Fitting, low-first, eight, value, number-at, numbers}
+use Rattle.wire.specs.Bytes.{Below, Bytes, Fitting, low-first, eight, number-at, numbers}
 
-pub length-low-first : (k n : ℕ) → length (low-first k n) ≡ k
+-- the number whose bytes these are
+unfoldable value : List ℕ → ℕ
+value [] = 0
+value (b ∷ bs) = b + 256 * value bs
+
+length-low-first : (k n : ℕ) → length (low-first k n) ≡ k
 unfolding low-first
 length-low-first zero n = refl
 length-low-first (suc k) n = ap suc (length-low-first k (n / 256))
 
-pub value-low-first : (k n : ℕ) → n < 256 ^ k → value (low-first k n) ≡ n
+value-low-first : (k n : ℕ) → n < 256 ^ k → value (low-first k n) ≡ n
 unfolding low-first value
 value-low-first zero n h = omega arith
 value-low-first (suc k) n h = omega (arith, value-low-first k (n / 256) (omega (arith, pow-succ' 256 k)))
 
-pub value-lt : (bs : List ℕ) → Bytes bs → value bs < 256 ^ length bs
+value-lt : (bs : List ℕ) → Bytes bs → value bs < 256 ^ length bs
 unfolding value
 value-lt [] h = omega arith
 value-lt (b ∷ bs) h = omega (arith, h 0, value-lt bs (λ i. h (suc i)), pow-succ' 256 (length bs))
 
-pub low-first-value : (bs : List ℕ) → Bytes bs → low-first (length bs) (value bs) ≡ bs
+low-first-value : (bs : List ℕ) → Bytes bs → low-first (length bs) (value bs) ≡ bs
 unfolding low-first value
 low-first-value [] h = refl
 low-first-value (b ∷ bs) h =
@@ -62,70 +67,76 @@ bytes-zeros zero i = omega arith
 bytes-zeros (suc n) zero = omega arith
 bytes-zeros (suc n) (suc i) = bytes-zeros n i
 
+-- one byte of a number that begins at i, after k others
+value-more : (n k i : ℕ) (bs : List ℕ) → i + k < length bs → value (take (suc n) (drop (i + k) bs)) ≡ getD bs (i + k) 0 + 256 * value (take n (drop (i + suc k) bs))
+unfolding value
+value-more n k i bs lt =
+    let next : i + k + 1 ≡ i + suc k = omega arith in
+    rw (drop-more bs (i + k) 0 lt, next)
+
+number-value : (i : ℕ) (bs : List ℕ) → i + 8 ≤ length bs → number-at bs i ≡ value (take 8 (drop i bs))
+unfolding value
+number-value i bs h =
+    let first : value (take 8 (drop i bs)) ≡ getD bs i 0 + 256 * value (take 7 (drop (i + 1) bs)) = rw (add-zero i) at (value-more 7 0 i bs (omega arith)) in
+    omega (
+      arith,
+      value-more 6 1 i bs (omega arith),
+      value-more 5 2 i bs (omega arith),
+      value-more 4 3 i bs (omega arith),
+      value-more 3 4 i bs (omega arith),
+      value-more 2 5 i bs (omega arith),
+      value-more 1 6 i bs (omega arith),
+      value-more 0 7 i bs (omega arith),
+    )
+
+pub number-drop : (m i : ℕ) (bs : List ℕ) → number-at (drop m bs) i ≡ number-at bs (m + i)
+number-drop m i bs = simp (getD-drop, add-assoc)
+
+-- a number's bytes are read as that number
+pub number-eight : (n : ℕ) (rest : List ℕ) → n < 2 ^ 64 → number-at (eight n ++ rest) 0 ≡ n
+unfolding low-first
+number-eight n rest h = number-value 0 (eight n ++ rest) (omega arith) ∙ value-low-first 8 n h
+
+module _ (bs : List ℕ) (some : 8 ≤ length bs) (h : Bytes bs) where
+  -- eight bytes are those of the number that is read from them
+  eight-number : eight (number-at bs 0) ≡ take 8 bs
+  eight-number =
+      let long = length-take-le 8 bs some in
+      ap eight (number-value 0 bs some) ∙ (rw long at (low-first-value (take 8 bs) (bytes-take 8 bs some h)))
+
+  number-fits : number-at bs 0 < 2 ^ 64
+  number-fits =
+      let long = length-take-le 8 bs some in
+      let lt : value (take 8 bs) < 2 ^ 64 = rw long at (value-lt (take 8 bs) (bytes-take 8 bs some h)) in
+      omega (arith, number-value 0 bs some)
+
 pub length-joined : (ns : List ℕ) → length (joined eight ns) ≡ 8 * length ns
 length-joined [] = refl
 length-joined (n ∷ ns) =
     omega (arith, length-append (eight n) (joined eight ns), length-low-first 8 n, length-joined ns)
 
-pub length-numbers : (n : ℕ) (bs : List ℕ) → length (numbers n bs) ≡ n
-unfolding numbers
-length-numbers zero bs = refl
-length-numbers (suc n) bs = ap suc (length-numbers n (drop 8 bs))
-
-pub numbers-joined : (ns rest : List ℕ) → Fitting ns → numbers (length ns) (joined eight ns ++ rest) ≡ ns
+pub numbers-joined : (ns : List ℕ) → Fitting ns → numbers (length ns) (joined eight ns) ≡ ns
 unfolding numbers low-first
-numbers-joined [] rest h = refl
-numbers-joined (n ∷ ns) rest h =
-    rw (value-low-first 8 n (h 0), numbers-joined ns rest (λ i. h (suc i)))
-
-module _ (n : ℕ) (bs : List ℕ) (long : length bs ≡ 8 * suc n) (h : Bytes bs) where
-  first-long : length (take 8 bs) ≡ 8
-  first-long = length-take-le 8 bs (omega arith)
-
-  first-bytes : Bytes (take 8 bs)
-  first-bytes = bytes-take 8 bs (omega arith) h
-
-  rest-long : length (drop 8 bs) ≡ 8 * n
-  rest-long = omega (arith, length-drop 8 bs)
+numbers-joined [] h = refl
+numbers-joined (n ∷ ns) h =
+    let first = number-eight n (joined eight ns) (h 0) in
+    let rest = numbers-joined ns (λ i. h (suc i)) in
+    λ i. first i ∷ rest i
 
 pub joined-numbers : (n : ℕ) (bs : List ℕ) → length bs ≡ 8 * n → Bytes bs → joined eight (numbers n bs) ≡ bs
 unfolding numbers
-joined-numbers zero [] long h = refl
-joined-numbers zero (b ∷ bs) long h = absurd (omega arith)
+joined-numbers zero bs long h = sym (nil-from-length bs long)
 joined-numbers (suc n) bs long h =
-    let first : eight (value (take 8 bs)) ≡ take 8 bs = rw (first-long n bs long h) at (low-first-value (take 8 bs) (first-bytes n bs long h)) in
-    let rest = joined-numbers n (drop 8 bs) (rest-long n bs long h) (bytes-drop 8 bs h) in
+    let first = eight-number bs (omega arith) h in
+    let rest = joined-numbers n (drop 8 bs) (omega (arith, length-drop 8 bs)) (bytes-drop 8 bs h) in
     rw (first, rest) (take-append-drop 8 bs)
 
 pub fitting-numbers : (n : ℕ) (bs : List ℕ) → length bs ≡ 8 * n → Bytes bs → Fitting (numbers n bs)
 unfolding numbers
 fitting-numbers zero bs long h i = omega arith
-fitting-numbers (suc n) bs long h zero =
-    rw (first-long n bs long h) at (value-lt (take 8 bs) (first-bytes n bs long h))
+fitting-numbers (suc n) bs long h zero = number-fits bs (omega arith) h
 fitting-numbers (suc n) bs long h (suc i) =
-    fitting-numbers n (drop 8 bs) (rest-long n bs long h) (bytes-drop 8 bs h) i
-
-value-more : (b : List ℕ) (k : ℕ) → k < length b → value (drop k b) ≡ getD b k 0 + 256 * value (drop (k + 1) b)
-unfolding value
-value-more b k h = ap value (drop-more b k 0 h)
-
--- what `from_le_bytes` says of eight bytes
-pub value-is : (b : List ℕ) → length b ≡ 8 → getD b 0 0 + getD b 1 0 * 256 + getD b 2 0 * 65536 + getD b 3 0 * 16777216 + getD b 4 0 * 4294967296 + getD b 5 0 * 1099511627776 + getD b 6 0 * 281474976710656 + getD b 7 0 * 72057594037927936 ≡ value b
-unfolding value
-value-is b long =
-    let more : (k : ℕ) → k < 8 → value (drop k b) ≡ getD b k 0 + 256 * value (drop (k + 1) b) = λ k h. value-more b k (omega arith) in
-    let end : value (drop 8 b) ≡ 0 = ap value (drop-all 8 b (omega arith)) in
-    omega (
-      arith,
-      more 0 (omega arith),
-      more 1 (omega arith),
-      more 2 (omega arith),
-      more 3 (omega arith),
-      more 4 (omega arith),
-      more 5 (omega arith),
-      more 6 (omega arith),
-      more 7 (omega arith),
-    )
+    fitting-numbers n (drop 8 bs) (omega (arith, length-drop 8 bs)) (bytes-drop 8 bs h) i
 
 -- what `to_le_bytes` says of n
 pub eight-is : (n : ℕ) → (n % 256) ∷ (n / 256 % 256) ∷ (n / 65536 % 256) ∷ (n / 16777216 % 256) ∷ (n / 4294967296 % 256) ∷ (n / 1099511627776 % 256) ∷ (n / 281474976710656 % 256) ∷ (n / 72057594037927936 % 256) ∷ [] ≡ eight n
@@ -139,7 +150,9 @@ numbers-more zero bs = refl
 numbers-more (suc n) bs =
     let next : 8 + 8 * n ≡ 8 * suc n = omega arith in
     let one : suc n + 1 ≡ suc (n + 1) = omega arith in
-    rw (one, numbers-more n (drop 8 bs), drop-drop (8 * n) 8 bs, next)
+    let last : number-at (drop 8 bs) (8 * n) ≡ number-at bs (8 * suc n) = number-drop 8 (8 * n) bs ∙ ap (number-at bs) next in
+    let rest = numbers-more n (drop 8 bs) in
+    ap (λ (k : ℕ). numbers k bs) one ∙ ap (λ (l : List ℕ). number-at bs 0 ∷ l) (rest ∙ ap (λ (x : ℕ). numbers n (drop 8 bs) ++ x ∷ []) last)
 
 -- one number more is written
 pub put-more : (ns : List ℕ) (i : ℕ) (before part bytes : List ℕ) → i < length ns → 8 * length ns ≤ length before → part ≡ joined eight (take i ns) ++ drop (8 * i) before → bytes ≡ eight (getD ns i 0) → putMid (8 * i) (8 * i + 8 - 8 * i) part bytes ≡ joined eight (take (i + 1) ns) ++ drop (8 * (i + 1)) before

@@ -6,11 +6,11 @@ use native.Mathlib.Omega.{arith}
 use lib.ListN.{length, getD}
 use Rattle.std.proofs.shelf.Ways.{tells}
 use Rattle.estate.specs.Calls.{Call, claims, proves, comes, shares, cents, garbled}
-use Rattle.wire.specs.Bytes.{Bytes, Fitting, low-first, numbers, row}
+use Rattle.wire.specs.Bytes.{Bytes, Fitting, low-first, eight, number-at, numbers, row}
 use Rattle.wire.specs.Calls.{kind, fields, call-row, Sendable, extent}
 use Rattle.wire.specs.Reading.{call-at, read, Whole}
 use Rattle.wire.specs.Laws.{One-call}
-use Rattle.wire.proofs.Bytes.{value-low-first, joined-numbers, fitting-numbers}
+use Rattle.wire.proofs.Bytes.{number-drop, number-eight, joined-numbers, fitting-numbers}
 
 pub read-none : (bs : List ℕ) → length bs ≡ 0 → read bs ≡ garbled 0
 read-none bs h = grind (arith, tells)
@@ -44,10 +44,12 @@ length-call-row (garbled n) = refl
 -- the call that was written is the one that is read
 pub read-row : (c : Call) → Sendable c → read (call-row c) ≡ c
 unfolding row low-first
-read-row (claims c) h = ap claims (value-low-first 8 c (h .fitting 0))
+read-row (claims c) h = ap claims (number-eight c [] (h .fitting 0))
 read-row (proves i c) h =
-    rw (value-low-first 8 i (h .fitting 0), value-low-first 8 c (h .fitting 1))
-read-row (comes x) h = ap comes (value-low-first 8 x (h .fitting 0))
+    let first = number-eight i (eight c) (h .fitting 0) in
+    let second = number-eight c [] (h .fitting 1) in
+    λ j. proves (first j) (second j)
+read-row (comes x) h = ap comes (number-eight x [] (h .fitting 0))
 read-row shares h = refl
 read-row cents h = refl
 read-row (garbled n) h = absurd (omega (arith, h .known))
@@ -67,7 +69,8 @@ module _ (k n b : ℕ) (bs : List ℕ) (same : b ≡ k) (known : k < 5) (long : 
 row-at : (k b : ℕ) (bs : List ℕ) → b ≡ k → k ≤ 4 → suc (length bs) ≡ extent k → Bytes bs → Sendable (call-at k (b ∷ bs)) × (call-row (call-at k (b ∷ bs)) ≡ b ∷ bs)
 unfolding numbers
 row-at zero b bs same known long h = row-of 0 1 b bs same (omega arith) (omega arith) h _ refl refl
-row-at (suc zero) b bs same known long h = row-of 1 2 b bs same (omega arith) (omega arith) h _ refl refl
+row-at (suc zero) b bs same known long h =
+    row-of 1 2 b bs same (omega arith) (omega arith) h _ refl (ap (λ (n : ℕ). number-at bs 0 ∷ n ∷ []) (sym (number-drop 8 0 bs)))
 row-at (suc (suc zero)) b bs same known long h = row-of 2 1 b bs same (omega arith) (omega arith) h _ refl refl
 row-at (suc (suc (suc zero))) b bs same known long h =
     row-of 3 0 b bs same (omega arith) (omega arith) h _ refl refl

@@ -2,11 +2,11 @@
 ghost use mathlib.Core.Path.{_≡_};
 ghost use mathlib.Core.List.{_++_};
 ghost use Prim.Native.Nat.{_+_, _*_, _/_, _≤_};
-ghost use lib.ListN.{length, take, drop};
+ghost use lib.ListN.{length, drop};
 ghost use Rattle.std.specs.Joined.{joined};
 ghost use Rattle.std.specs.Of.Vec.{vec-items};
 ghost use Rattle.std.specs.Vec.{made};
-ghost use Rattle.wire.specs.Bytes.{Fitting, eight, value, numbers, row};
+ghost use Rattle.wire.specs.Bytes.{Fitting, eight, number-at, numbers, row};
 ghost use Rattle.wire.specs.Written.{Written};
 use crate::refusals::Refusal;
 use std::alloc::AllocError;
@@ -15,10 +15,18 @@ use std::alloc::Global;
 // The number whose eight bytes begin at a place.
 pub(crate) fn number_at(bytes: &[u8], at: usize) -> u64
     requires { ⌜ at + 8 ≤ length (now bytes) ⌝ }
-    ensures { λ r. ⌜ r ≡ value (take 8 (drop at (now (bytes .entry)))) ⌝ }
+    ensures { λ r. ⌜ r ≡ number-at (now (bytes .entry)) at ⌝ }
 {
-    let b = &bytes[at..at + 8];
-    u64::from_le_bytes([b[0], b[1], b[2], b[3], b[4], b[5], b[6], b[7]])
+    u64::from_le_bytes([
+        bytes[at],
+        bytes[at + 1],
+        bytes[at + 2],
+        bytes[at + 3],
+        bytes[at + 4],
+        bytes[at + 5],
+        bytes[at + 6],
+        bytes[at + 7],
+    ])
 }
 
 // Writes numbers at the start of a part that has room for them.

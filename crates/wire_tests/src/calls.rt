@@ -95,7 +95,7 @@ fn places_past_32_bits() -> Result<(), Fail> {
     check_eq(Call::decode(last), Ok(Call::Prove(4294967295, 5)))
 }
 
-// Calls follow each other with nothing between; the last is cut short.
+// Calls follow each other with nothing between. The last is cut short; behind an unknown one nothing can be read.
 #[test]
 fn calls_one_by_one() -> Result<(), Fail> {
     let file = b"\x03\x02\x07\0\0\0\0\0\0\0\x04\x00\x01";
@@ -107,13 +107,8 @@ fn calls_one_by_one() -> Result<(), Fail> {
     check_eq(third, Ok(Call::Cents))?;
     let (fourth, rest) = Call::split_first(rest);
     check_eq(fourth, Err(2))?;
-    check(rest.is_empty())
-}
-
-// Behind a byte that is no call's nothing can be read.
-#[test]
-fn nothing_behind_an_unknown_call() -> Result<(), Fail> {
-    let (first, rest) = Call::split_first(b"\x09\x03\x03");
-    check_eq(first, Err(0))?;
+    check(rest.is_empty())?;
+    let (unknown, rest) = Call::split_first(b"\x09\x03\x03");
+    check_eq(unknown, Err(0))?;
     check(rest.is_empty())
 }
