@@ -13,7 +13,7 @@ abbrev pub share : Bool → Level → ℕ → ℕ
 share true v c = half v c
 share false v c = 2 * v .sharers * c - half v c
 
--- the parts of a cent: twice the sharers, and whole cents where nobody claims anything
+-- the parts of a cent: twice the sharers, and 1 where there are no creditors
 abbrev pub denominator : ℕ → List ℕ → ℕ
 denominator e cs = max 1 (2 * level e cs .sharers)
 
