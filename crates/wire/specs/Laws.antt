@@ -28,7 +28,7 @@ abbrev pub Answer-back : Type 0
 Answer-back =
     (bs : List ℕ) (o : Option Answer) (a : Answer) → answers.Received bs o → answers.Sendable a → answers.answer-row a ≡ bs → o ≡ Some a
 
--- no estate of fewer than 2^32 claims shows whether a place was cut to 32 bits: such a claim is not there, before and after
+-- no estate of fewer than 2^32 claims shows whether a place was narrowed to 32 bits: neither place has a claim, or they are one
 abbrev pub Narrow-enough : Type 0
 Narrow-enough =
     (l : Limits) (e : Estate) (c : Call) → length (counted e) < 2 ^ 32 → (answered l e (narrow c) ≡ answered l e c) × (after l e (narrow c) ≡ after l e c)
