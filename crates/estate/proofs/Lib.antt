@@ -1,1 +1,11 @@
+pub mod Facts
+pub mod Sums
+pub mod Compared
+pub mod Losses
+pub mod Without
+pub mod Ordered
+pub mod Filled
+pub mod ClosedForm
+pub mod WholeCents
+pub mod SameCents
 pub mod Examples

@@ -1,0 +1,76 @@
+-- The closed form divides: where little is there by what is filled in, otherwise by what is lost. Assumes nothing.
+use mathlib.Core.Path.{_≡_, refl, ap, sym, _∙_}
+use mathlib.Core.Bool.{Bool, true, false, cond}
+use mathlib.Core.List.{List, [], _∷_, map}
+use Prim.Native.Nat.{ℕ, zero, suc, _+_, _*_, _-_, _≤_, _<_, min, max}
+use native.Mathlib.Omega.{arith}
+use lib.ListN.{length, getD}
+use Rattle.std.proofs.shelf.Lists.{length-map}
+use Rattle.std.proofs.shelf.Tests.{leb-true, leb-false}
+use Rattle.estate.specs.Sums.{sum}
+use Rattle.estate.specs.Order.{sorted}
+use Rattle.estate.specs.Level.{Level, fill, scarce, target}
+use Rattle.estate.specs.Closed.{half, share, denominator, division}
+use Rattle.estate.specs.Promises.{losses}
+use Rattle.estate.proofs.Facts.{Divides}
+use Rattle.estate.proofs.Losses.{lost-alike}
+use Rattle.estate.proofs.Ordered.{sum-map-sorted, sum-sorted, length-sorted, rising-sorted}
+use Rattle.estate.proofs.Filled.{few-share, some-share, filled}
+
+-- at every place, also past the end, where nothing is claimed
+getD-map-half : (v : Level) (cs : List ℕ) (i : ℕ) → getD (map (half v) cs) i 0 ≡ half v (getD cs i 0)
+getD-map-half v [] i = omega arith
+getD-map-half v (c ∷ cs) zero = refl
+getD-map-half v (c ∷ cs) (suc i) = getD-map-half v cs i
+
+losses-map : (d : ℕ) (f : ℕ → ℕ) (cs : List ℕ) → losses d cs (map f cs) ≡ map (λ c. d * c - f c) cs
+unfolding losses
+losses-map d f [] = refl
+losses-map d f (c ∷ cs) = ap (λ l. (d * c - f c) ∷ l) (losses-map d f cs)
+
+-- at most half of what is claimed, to one creditor or more
+module _ (e : ℕ) (cs : List ℕ) (l : 0 < length cs) (h : 2 * e ≤ sum cs) where
+  abbrev v : Level
+  v = fill (2 * e) (sorted cs)
+
+  within : 2 * e ≤ sum (sorted cs)
+  within = rw sum-sorted h
+
+  parts : 0 < v .sharers
+  parts = some-share (2 * e) (sorted cs) (rw length-sorted l) within
+
+  halves : Divides (2 * v .sharers) e cs (map (half v) cs)
+  halves = record {
+    parted = omega (arith, parts);
+    paired = length-map cs (half v);
+    whole = omega (arith, sum-map-sorted (half v) cs, filled (2 * e) (sorted cs) (rising-sorted cs) within);
+    below = λ i. omega (arith, getD-map-half v cs i);
+    two = λ i j. omega (arith, getD-map-half v cs i, getD-map-half v cs j);
+  }
+
+  twice : 2 * v .sharers ≡ max 1 (2 * v .sharers)
+  twice = omega (arith, parts)
+
+  gained : Divides (max 1 (2 * v .sharers)) e cs (map (half v) cs)
+  gained = rw (← twice) halves
+
+  lost : Divides (max 1 (2 * v .sharers)) (sum cs - e) cs (map (λ c. 2 * v .sharers * c - half v c) cs)
+  lost = rw (← twice, ← losses-map (2 * v .sharers) (half v) cs) (lost-alike _ e cs _ halves)
+
+module _ (e : ℕ) (cs : List ℕ) (l : 0 < length cs) (h : e ≤ sum cs) where
+  abbrev on-side : Bool → Level
+  on-side t = fill (cond t (2 * e) (2 * (sum cs - e))) (sorted cs)
+
+  by-side : (t : Bool) → scarce e cs ≡ t → Divides (max 1 (2 * on-side t .sharers)) e cs (map (share t (on-side t)) cs)
+  by-side true t = gained e cs l (leb-true _ _ t)
+  by-side false t =
+      let kept : sum cs - (sum cs - e) ≡ e = omega arith in
+      rw kept at (lost (sum cs - e) cs l (omega (arith, leb-false _ _ t)))
+
+pub closed-divides : (e : ℕ) (cs : List ℕ) → e ≤ sum cs → Divides (denominator e cs) e cs (division e cs)
+unfolding sum sorted fill
+closed-divides e [] h = record { parted = omega arith; paired = refl; whole = omega arith; below = λ i. omega arith; two = λ i j. omega arith }
+closed-divides e (c ∷ cs) h = by-side e (c ∷ cs) (omega arith) h _ refl
+
+pub denominator-few : (e : ℕ) (cs : List ℕ) → denominator e cs ≤ max 1 (2 * length cs)
+denominator-few e cs = omega (arith, few-share (target e cs) (sorted cs), length-sorted cs)

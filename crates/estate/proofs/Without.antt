@@ -1,0 +1,44 @@
+-- Who is paid a whole number of cents and goes changes nothing for the others. Assumes nothing.
+use mathlib.Core.Path.{_≡_, refl}
+use mathlib.Core.List.{List, [], _∷_}
+use Prim.Native.Nat.{ℕ, zero, suc, _+_, _*_, _-_, _<_}
+use native.Mathlib.Omega.{arith}
+use native.Mathlib.Nat.{mul-sub}
+use lib.ListN.{length, getD}
+use Rattle.estate.specs.Sums.{sum}
+use Rattle.estate.specs.Promises.{without}
+use Rattle.estate.proofs.Facts.{Divides}
+
+-- where the one at j stood before the one at i went
+abbrev stood : ℕ → ℕ → ℕ
+stood zero j = suc j
+stood (suc i) zero = zero
+stood (suc i) (suc j) = suc (stood i j)
+
+getD-without : (xs : List ℕ) (i j : ℕ) → getD (without xs i) j 0 ≡ getD xs (stood i j) 0
+unfolding without
+getD-without [] i j = refl
+getD-without (x ∷ xs) zero j = refl
+getD-without (x ∷ xs) (suc i) zero = refl
+getD-without (x ∷ xs) (suc i) (suc j) = getD-without xs i j
+
+length-without : (xs : List ℕ) (i : ℕ) → i < length xs → suc (length (without xs i)) ≡ length xs
+unfolding without
+length-without [] i h = absurd (omega arith)
+length-without (x ∷ xs) zero h = refl
+length-without (x ∷ xs) (suc i) h = omega (arith, length-without xs i (omega arith))
+
+sum-without : (xs : List ℕ) (i : ℕ) → getD xs i 0 + sum (without xs i) ≡ sum xs
+unfolding without sum
+sum-without [] i = refl
+sum-without (x ∷ xs) zero = refl
+sum-without (x ∷ xs) (suc i) = omega (arith, sum-without xs i)
+
+pub who-goes : (d e i x : ℕ) (cs xs : List ℕ) → Divides d e cs xs → i < length cs → getD xs i 0 ≡ d * x → Divides d (e - x) (without cs i) (without xs i)
+who-goes d e i x cs xs p h paid = record {
+  parted = p .parted;
+  paired = omega (arith, p .paired, length-without cs i h, length-without xs i (omega (arith, p .paired)));
+  whole = omega (arith, p .whole, sum-without xs i, mul-sub d e x);
+  below = λ j. simp getD-without (p .below (stood i j));
+  two = λ j k. simp getD-without (p .two (stood i j) (stood i k));
+}
