@@ -11,9 +11,10 @@ use Rattle.estate.specs.Sums.{sum}
 use Rattle.estate.specs.Order.{sorted}
 use Rattle.estate.specs.Level.{Level, fill, scarce, target}
 use Rattle.estate.specs.Closed.{half, share, denominator, division}
-use Rattle.estate.specs.Promises.{losses}
-use Rattle.estate.proofs.Facts.{Divides}
-use Rattle.estate.proofs.Losses.{lost-alike}
+use Rattle.estate.specs.Promises.{losses, Closed-divides, There-is-one}
+use Rattle.estate.proofs.Facts.{from-facts}
+use Rattle.estate.specs.Division.{Agrees}
+use Rattle.estate.proofs.Losses.{losses-agree}
 use Rattle.estate.proofs.Ordered.{sum-map-sorted, sum-sorted, length-sorted, rising-sorted}
 use Rattle.estate.proofs.Filled.{few-share, some-share, filled}
 
@@ -39,38 +40,46 @@ module _ (e : ℕ) (cs : List ℕ) (l : 0 < length cs) (h : 2 * e ≤ sum cs) wh
   parts : 0 < v .sharers
   parts = some-share (2 * e) (sorted cs) (rw length-sorted l) within
 
-  halves : Divides (2 * v .sharers) e cs (map (half v) cs)
+  halves : Agrees (2 * v .sharers) e cs (map (half v) cs)
   halves = record {
     parted = omega (arith, parts);
     paired = length-map cs (half v);
     whole = omega (arith, sum-map-sorted (half v) cs, filled (2 * e) (sorted cs) (rising-sorted cs) within);
     below = λ i. omega (arith, getD-map-half v cs i);
-    two = λ i j. omega (arith, getD-map-half v cs i, getD-map-half v cs j);
+    plain = λ i j. omega (arith, getD-map-half v cs i, getD-map-half v cs j);
   }
 
   twice : 2 * v .sharers ≡ max 1 (2 * v .sharers)
   twice = omega (arith, parts)
 
-  gained : Divides (max 1 (2 * v .sharers)) e cs (map (half v) cs)
+  gained : Agrees (max 1 (2 * v .sharers)) e cs (map (half v) cs)
   gained = rw (← twice) halves
 
-  lost : Divides (max 1 (2 * v .sharers)) (sum cs - e) cs (map (λ c. 2 * v .sharers * c - half v c) cs)
-  lost = rw (← twice, ← losses-map (2 * v .sharers) (half v) cs) (lost-alike _ e cs _ halves)
+  lost : Agrees (max 1 (2 * v .sharers)) (sum cs - e) cs (map (λ c. 2 * v .sharers * c - half v c) cs)
+  lost = rw (← twice, ← losses-map (2 * v .sharers) (half v) cs) (losses-agree _ e cs _ halves)
 
 module _ (e : ℕ) (cs : List ℕ) (l : 0 < length cs) (h : e ≤ sum cs) where
   abbrev on-side : Bool → Level
   on-side t = fill (cond t (2 * e) (2 * (sum cs - e))) (sorted cs)
 
-  by-side : (t : Bool) → scarce e cs ≡ t → Divides (max 1 (2 * on-side t .sharers)) e cs (map (share t (on-side t)) cs)
+  by-side : (t : Bool) → scarce e cs ≡ t → Agrees (max 1 (2 * on-side t .sharers)) e cs (map (share t (on-side t)) cs)
   by-side true t = gained e cs l (leb-true _ _ t)
   by-side false t =
       let kept : sum cs - (sum cs - e) ≡ e = omega arith in
       rw kept at (lost (sum cs - e) cs l (omega (arith, leb-false _ _ t)))
 
-pub closed-divides : (e : ℕ) (cs : List ℕ) → e ≤ sum cs → Divides (denominator e cs) e cs (division e cs)
+pub closed-agrees : (e : ℕ) (cs : List ℕ) → e ≤ sum cs → Agrees (denominator e cs) e cs (division e cs)
 unfolding sum sorted fill
-closed-divides e [] h = record { parted = omega arith; paired = refl; whole = omega arith; below = λ i. omega arith; two = λ i j. omega arith }
-closed-divides e (c ∷ cs) h = by-side e (c ∷ cs) (omega arith) h _ refl
+closed-agrees e [] h = record { parted = omega arith; paired = refl; whole = omega arith; below = λ i. omega arith; plain = λ i j. omega arith }
+closed-agrees e (c ∷ cs) h = by-side e (c ∷ cs) (omega arith) h _ refl
 
 pub denominator-few : (e : ℕ) (cs : List ℕ) → denominator e cs ≤ max 1 (2 * length cs)
 denominator-few e cs = omega (arith, few-share (target e cs) (sorted cs), length-sorted cs)
+
+pub closed-divides : Closed-divides
+closed-divides e cs h = (denominator-few e cs, from-facts _ e cs _ (closed-agrees e cs h))
+
+pub there-is-one : There-is-one
+there-is-one e cs h =
+    let closed = closed-divides e cs h in
+    (denominator e cs, division e cs, omega (arith, closed .0), closed .1)

@@ -8,19 +8,12 @@ use lib.ListN.{length, getD}
 use Rattle.std.proofs.shelf.Tests.{false≢true, and-parts, and-from, ltb-true, lt-ltb, leb-true, le-leb, eqb-true, eq-eqb}
 use Rattle.estate.specs.Sums.{sum}
 use Rattle.estate.specs.Pairs.{with-all, pairwise, none-above}
-use Rattle.estate.specs.Division.{divides}
+use Rattle.estate.specs.Division.{divides, Agrees}
+use Rattle.estate.specs.Promises.{Agrees-with-law}
 
 -- who claim c and k, and have a and b, divide as two do
-abbrev pub As-two : ℕ → ℕ → ℕ → ℕ → Type 0
+abbrev As-two : ℕ → ℕ → ℕ → ℕ → Type 0
 As-two c k a b = 2 * a + (a + b - c) ≡ a + b + (a + b - k)
-
--- Past the end of a list there is nothing claimed and nothing had, so what is said of creditors holds at every place.
-pub record Divides (d e : ℕ) (cs xs : List ℕ) : Type 0 where
-  pub parted : 0 < d
-  pub paired : length xs ≡ length cs
-  pub whole : sum xs ≡ d * e
-  pub below : (i : ℕ) → getD xs i 0 ≤ d * getD cs i 0
-  pub two : (i j : ℕ) → As-two (d * getD cs i 0) (d * getD cs j 0) (getD xs i 0) (getD xs j 0)
 
 module _ (d : ℕ) where
   below-from : (cs xs : List ℕ) → length xs ≡ length cs → none-above d cs xs ≡ true → (i : ℕ) → getD xs i 0 ≤ d * getD cs i 0
@@ -73,7 +66,7 @@ module _ (d : ℕ) where
       and-from _ _ (with-all-to x c cs xs rest (λ j. h 0 (suc j))) (two-to cs xs rest (λ i j. h (suc i) (suc j)))
 
   module _ (e : ℕ) (cs xs : List ℕ) where
-    pub facts : divides d e cs xs ≡ true → Divides d e cs xs
+    pub facts : divides d e cs xs ≡ true → Agrees d e cs xs
     facts h =
         let halves = and-parts _ _ h in
         let first = and-parts _ _ (halves .0) in
@@ -86,9 +79,16 @@ module _ (d : ℕ) where
           paired = paired;
           whole = eqb-true _ _ (second .0);
           below = below;
-          two = two-from cs xs paired below (third .1);
+          plain = λ i j. omega (arith, two-from cs xs paired below (third .1) i j, below i, below j);
         }
 
-    pub from-facts : Divides d e cs xs → divides d e cs xs ≡ true
-    from-facts p =
-        and-from _ _ (and-from _ _ (lt-ltb _ _ (p .parted)) (eq-eqb _ _ (p .paired))) (and-from _ _ (eq-eqb _ _ (p .whole)) (and-from _ _ (below-to cs xs (p .below)) (two-to cs xs (p .paired) (p .two))))
+    module _ (p : Agrees d e cs xs) where
+      two : (i j : ℕ) → As-two (d * getD cs i 0) (d * getD cs j 0) (getD xs i 0) (getD xs j 0)
+      two i j = omega (arith, p .plain i j, p .below i, p .below j)
+
+      pub from-facts : divides d e cs xs ≡ true
+      from-facts =
+          and-from _ _ (and-from _ _ (lt-ltb _ _ (p .parted)) (eq-eqb _ _ (p .paired))) (and-from _ _ (eq-eqb _ _ (p .whole)) (and-from _ _ (below-to cs xs (p .below)) (two-to cs xs (p .paired) two)))
+
+pub agrees-with-law : Agrees-with-law
+agrees-with-law d e cs xs = (facts d e cs xs, from-facts d e cs xs)

@@ -1,4 +1,5 @@
 pub mod Facts
+pub mod Plain
 pub mod Sums
 pub mod Compared
 pub mod Losses

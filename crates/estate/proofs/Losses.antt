@@ -6,8 +6,9 @@ use native.Mathlib.Omega.{arith}
 use native.Mathlib.Nat.{mul-sub}
 use lib.ListN.{length, getD}
 use Rattle.estate.specs.Sums.{sum}
-use Rattle.estate.specs.Promises.{losses}
-use Rattle.estate.proofs.Facts.{Divides}
+use Rattle.estate.specs.Promises.{losses, Lost-alike}
+use Rattle.estate.proofs.Facts.{facts, from-facts}
+use Rattle.estate.specs.Division.{Agrees}
 
 module _ (d : ℕ) where
   length-losses : (cs xs : List ℕ) → length xs ≡ length cs → length (losses d cs xs) ≡ length cs
@@ -30,13 +31,16 @@ module _ (d : ℕ) where
   sum-losses (c ∷ cs) [] l b = absurd (omega arith)
   sum-losses (c ∷ cs) (x ∷ xs) l b = omega (arith, b 0, sum-losses cs xs (omega arith) (λ i. b (suc i)))
 
-  pub lost-alike : (e : ℕ) (cs xs : List ℕ) → Divides d e cs xs → Divides d (sum cs - e) cs (losses d cs xs)
-  lost-alike e cs xs p =
+  pub losses-agree : (e : ℕ) (cs xs : List ℕ) → Agrees d e cs xs → Agrees d (sum cs - e) cs (losses d cs xs)
+  losses-agree e cs xs p =
       let lost = getD-losses cs xs (p .paired) in
       record {
         parted = p .parted;
         paired = length-losses cs xs (p .paired);
         whole = omega (arith, p .whole, sum-losses cs xs (p .paired) (p .below), mul-sub d (sum cs) e);
         below = λ i. omega (arith, lost i);
-        two = λ i j. omega (arith, lost i, lost j, p .two i j, p .below i, p .below j);
+        plain = λ i j. omega (arith, lost i, lost j, p .plain i j, p .below i, p .below j);
       }
+
+pub lost-alike : Lost-alike
+lost-alike d e cs xs h = from-facts d _ cs _ (losses-agree d e cs xs (facts d e cs xs h))

@@ -10,6 +10,9 @@ use lib.ListN.{length, getD}
 use Rattle.std.specs.shelf.Lists.{Each}
 use Rattle.std.proofs.shelf.Ways.{same-from-decides, decides-like, decides-ltb}
 use Rattle.estate.specs.Sums.{sum}
+use Rattle.estate.specs.Promises.{Same-cents}
+use Rattle.estate.proofs.Facts.{facts}
+use Rattle.estate.proofs.Compared.{just-one}
 use Rattle.estate.specs.Cents.{downs, lacks-most, one-more, give-left, in-cents}
 
 ltb-times : (k x y : ℕ) → 0 < k → ltb x y ≡ ltb (x * k) (y * k)
@@ -55,5 +58,18 @@ module _ (d f : ℕ) (d-parts : 0 < d) (f-parts : 0 < f) where
   same-given zero xs ys zs h = refl
   same-given (suc n) xs ys zs h = rw (same-most xs ys zs h 0 0 0 0 (omega arith)) (same-given n xs ys _ h)
 
-  pub same-cents : (e : ℕ) (xs ys : List ℕ) → Each Alike xs ys → in-cents d e xs ≡ in-cents f e ys
-  same-cents e xs ys h = rw (same-downs xs ys h) (same-given _ xs ys _ h)
+  same-from-alike : (e : ℕ) (xs ys : List ℕ) → Each Alike xs ys → in-cents d e xs ≡ in-cents f e ys
+  same-from-alike e xs ys h = rw (same-downs xs ys h) (same-given _ xs ys _ h)
+
+  each-alike : (xs ys : List ℕ) → length xs ≡ length ys → ((i : ℕ) → Alike (getD xs i 0) (getD ys i 0)) → Each Alike xs ys
+  each-alike [] [] l h = tt
+  each-alike [] (y ∷ ys) l h = absurd (omega arith)
+  each-alike (x ∷ xs) [] l h = absurd (omega arith)
+  each-alike (x ∷ xs) (y ∷ ys) l h = (h 0, each-alike xs ys (omega arith) (λ i. h (suc i)))
+
+pub same-cents : Same-cents
+same-cents d f e cs xs ys h k =
+    let p = facts d e cs xs h in
+    let q = facts f e cs ys k in
+    let alike = each-alike d f (p .parted) (q .parted) xs ys (omega (arith, p .paired, q .paired)) (λ i. just-one d f e i cs xs ys h k) in
+    same-from-alike d f (p .parted) (q .parted) e xs ys alike

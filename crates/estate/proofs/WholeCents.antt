@@ -12,6 +12,8 @@ use Rattle.std.proofs.shelf.Lists.{length-map}
 use Rattle.std.proofs.shelf.Tests.{ltb-true, ltb-false}
 use Rattle.estate.specs.Sums.{sum}
 use Rattle.estate.specs.Cents.{downs, lacks-most, one-more, give-left, in-cents}
+use Rattle.estate.specs.Promises.{Cents-add-up}
+use Rattle.estate.proofs.Facts.{facts}
 use Rattle.estate.proofs.Sums.{sum-apart}
 
 module _ (d : ℕ) where
@@ -114,3 +116,9 @@ module _ (d e : ℕ) (xs : List ℕ) (parted : 0 < d) (whole : sum xs ≡ d * e)
 
   pub rounded : Rounded d 0 e xs (in-cents d e xs)
   rounded = rounded-all _ _ rounded-down
+
+pub cents-add-up : Cents-add-up
+cents-add-up d e i cs xs h _ =
+    let p = facts d e cs xs h in
+    let r = rounded d e xs (p .parted) (p .whole) in
+    (omega (arith, r .given), r .near i .0, r .near i .1)

@@ -6,8 +6,9 @@ use native.Mathlib.Omega.{arith}
 use native.Mathlib.Nat.{mul-sub}
 use lib.ListN.{length, getD}
 use Rattle.estate.specs.Sums.{sum}
-use Rattle.estate.specs.Promises.{without}
-use Rattle.estate.proofs.Facts.{Divides}
+use Rattle.estate.specs.Promises.{without, Who-goes}
+use Rattle.estate.proofs.Facts.{facts, from-facts}
+use Rattle.estate.specs.Division.{Agrees}
 
 -- where the one at j stood before the one at i went
 abbrev stood : ℕ → ℕ → ℕ
@@ -34,11 +35,14 @@ sum-without [] i = refl
 sum-without (x ∷ xs) zero = refl
 sum-without (x ∷ xs) (suc i) = omega (arith, sum-without xs i)
 
-pub who-goes : (d e i x : ℕ) (cs xs : List ℕ) → Divides d e cs xs → i < length cs → getD xs i 0 ≡ d * x → Divides d (e - x) (without cs i) (without xs i)
-who-goes d e i x cs xs p h paid = record {
+others-agree : (d e i x : ℕ) (cs xs : List ℕ) → Agrees d e cs xs → i < length cs → getD xs i 0 ≡ d * x → Agrees d (e - x) (without cs i) (without xs i)
+others-agree d e i x cs xs p h paid = record {
   parted = p .parted;
   paired = omega (arith, p .paired, length-without cs i h, length-without xs i (omega (arith, p .paired)));
   whole = omega (arith, p .whole, sum-without xs i, mul-sub d e x);
   below = λ j. simp getD-without (p .below (stood i j));
-  two = λ j k. simp getD-without (p .two (stood i j) (stood i k));
+  plain = λ j k. simp getD-without (p .plain (stood i j) (stood i k));
 }
+
+pub who-goes : Who-goes
+who-goes d e i x cs xs h l paid = from-facts d _ _ _ (others-agree d e i x cs xs (facts d e cs xs h) l paid)

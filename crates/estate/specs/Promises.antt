@@ -1,13 +1,29 @@
--- What is true of every division. Each is a statement, and owed until it is proved. Assumes nothing.
+-- What is true of every division. Each is named by the contract of a function of this crate. Assumes nothing.
 use mathlib.Core.Path.{_≡_}
 use mathlib.Core.Bool.{true}
 use mathlib.Core.List.{List, [], _∷_}
 use Prim.Native.Nat.{ℕ, zero, suc, _+_, _*_, _-_, _≤_, _<_, max}
 use lib.ListN.{length, getD}
+use Rattle.std.specs.Orderings.{Decides}
 use Rattle.estate.specs.Sums.{sum}
-use Rattle.estate.specs.Division.{divides}
+use Rattle.estate.specs.Two.{plainly}
+use Rattle.estate.specs.Division.{divides, Agrees}
 use Rattle.estate.specs.Cents.{in-cents}
 use Rattle.estate.specs.Closed.{denominator, division}
+
+-- a division is what agrees with the plain law between each two
+abbrev pub Agrees-with-law : Type 0
+Agrees-with-law = (d e : ℕ) (cs xs : List ℕ) → Decides (divides d e cs xs) (Agrees d e cs xs)
+
+-- between two the plain law divides
+abbrev pub Plain-divides : Type 0
+Plain-divides =
+    (e c k : ℕ) → e ≤ c + k → divides 2 e (c ∷ k ∷ []) (plainly e c k ∷ plainly e k c ∷ []) ≡ true
+
+-- and whatever divides between two is what it gives
+abbrev pub Only-plain : Type 0
+Only-plain =
+    (d e c k : ℕ) (xs : List ℕ) → divides d e (c ∷ k ∷ []) xs ≡ true → (2 * getD xs 0 0 ≡ d * plainly e c k) × (2 * getD xs 1 0 ≡ d * plainly e k c)
 
 -- two divisions of the same among the same claims, in parts of whatever size, are the same
 abbrev pub Just-one : Type 0
@@ -59,3 +75,8 @@ Who-goes =
 abbrev pub Cents-add-up : Type 0
 Cents-add-up =
     (d e i : ℕ) (cs xs : List ℕ) → divides d e cs xs ≡ true → i < length cs → (sum (in-cents d e xs) ≡ e) × (d * getD (in-cents d e xs) i 0 < getD xs i 0 + d) × (getD xs i 0 < d * getD (in-cents d e xs) i 0 + d)
+
+-- whole cents do not depend on the parts that the shares are in
+abbrev pub Same-cents : Type 0
+Same-cents =
+    (d f e : ℕ) (cs xs ys : List ℕ) → divides d e cs xs ≡ true → divides f e cs ys ≡ true → in-cents d e xs ≡ in-cents f e ys

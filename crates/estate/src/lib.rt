@@ -6,6 +6,14 @@ ghost use Rattle.std.specs.Vec.{Every};
 ghost use Rattle.estate.specs.Examples.{Worked, table};
 ghost use Rattle.estate.specs.Limits.{most-cents};
 
+mod laws;
+
+pub use laws::left_over;
+pub use laws::most_parts;
+pub use laws::no_more;
+pub use laws::of_two;
+pub use laws::rounded_down;
+
 // The most cents that one claim may be, and that may come at once.
 pub const MOST_CENTS: u64 = 1_000_000_000;
 
@@ -21,5 +29,5 @@ pub fn worked_examples() -> usize
     ensures count { λ r. ⌜ r ≡ length table ⌝ }
     ensures hold { λ _. ⌜ Every Worked table ⌝ }
 {
-    8
+    9
 }
