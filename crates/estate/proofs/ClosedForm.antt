@@ -12,17 +12,12 @@ use Rattle.estate.specs.Order.{sorted}
 use Rattle.estate.specs.Level.{Level, fill, scarce, target}
 use Rattle.estate.specs.Closed.{half, share, denominator, division}
 use Rattle.estate.specs.Promises.{losses, Closed-divides, There-is-one}
+use Rattle.estate.proofs.Rows.{getD-map-zero}
 use Rattle.estate.proofs.Facts.{from-facts}
 use Rattle.estate.specs.Division.{Agrees}
 use Rattle.estate.proofs.Losses.{losses-agree}
 use Rattle.estate.proofs.Ordered.{sum-map-sorted, sum-sorted, length-sorted, rising-sorted}
 use Rattle.estate.proofs.Filled.{few-share, some-share, filled}
-
--- at every place, also past the end, where nothing is claimed
-getD-map-half : (v : Level) (cs : List ℕ) (i : ℕ) → getD (map (half v) cs) i 0 ≡ half v (getD cs i 0)
-getD-map-half v [] i = omega arith
-getD-map-half v (c ∷ cs) zero = refl
-getD-map-half v (c ∷ cs) (suc i) = getD-map-half v cs i
 
 losses-map : (d : ℕ) (f : ℕ → ℕ) (cs : List ℕ) → losses d cs (map f cs) ≡ map (λ c. d * c - f c) cs
 unfolding losses
@@ -40,13 +35,16 @@ module _ (e : ℕ) (cs : List ℕ) (l : 0 < length cs) (h : 2 * e ≤ sum cs) wh
   parts : 0 < v .sharers
   parts = some-share (2 * e) (sorted cs) (rw length-sorted l) within
 
+  had : (i : ℕ) → getD (map (half v) cs) i 0 ≡ half v (getD cs i 0)
+  had = getD-map-zero (half v) (omega arith) cs
+
   halves : Agrees (2 * v .sharers) e cs (map (half v) cs)
   halves = record {
     parted = omega (arith, parts);
     paired = length-map cs (half v);
     whole = omega (arith, sum-map-sorted (half v) cs, filled (2 * e) (sorted cs) (rising-sorted cs) within);
-    below = λ i. omega (arith, getD-map-half v cs i);
-    plain = λ i j. omega (arith, getD-map-half v cs i, getD-map-half v cs j);
+    below = λ i. omega (arith, had i);
+    plain = λ i j. omega (arith, had i, had j);
   }
 
   twice : 2 * v .sharers ≡ max 1 (2 * v .sharers)

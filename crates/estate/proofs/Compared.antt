@@ -9,7 +9,7 @@ use native.Mathlib.Nat.{mul-le-mul-left}
 use lib.ListN.{getD}
 use Rattle.std.proofs.shelf.Tests.{cases-lt}
 use Rattle.estate.specs.Division.{Agrees}
-use Rattle.estate.proofs.Sums.{sum-apart}
+use Rattle.estate.proofs.Rows.{sum-apart}
 use Rattle.estate.specs.Promises.{More-there, Just-one, Larger-claims}
 use Rattle.estate.proofs.Facts.{facts}
 use Rattle.estate.proofs.Plain.{plainly-finer}
@@ -41,7 +41,7 @@ just-one d f e i cs xs ys p q =
     omega (arith, more-there d f e e i cs xs ys (omega arith) p q, more-there f d e e i cs ys xs (omega arith) q p)
 
 pub larger-claims : Larger-claims
-larger-claims d e i j cs xs h _ _ less =
+larger-claims d e i j cs xs h less =
     let p = facts d e cs xs h in
     let more = mul-le-mul-left d less in
     (omega (arith, p .plain i j, p .below i), omega (arith, p .plain i j, p .below i, p .below j))

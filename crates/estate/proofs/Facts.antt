@@ -5,7 +5,7 @@ use mathlib.Core.List.{List, [], _∷_}
 use Prim.Native.Nat.{ℕ, zero, suc, _+_, _*_, _-_, _≤_, _<_}
 use native.Mathlib.Omega.{arith}
 use lib.ListN.{length, getD}
-use Rattle.std.proofs.shelf.Tests.{false≢true, and-parts, and-from, ltb-true, lt-ltb, leb-true, le-leb, eqb-true, eq-eqb}
+use Rattle.std.proofs.shelf.Tests.{and-parts, and-from, ltb-true, lt-ltb, leb-true, le-leb, eqb-true, eq-eqb}
 use Rattle.estate.specs.Sums.{sum}
 use Rattle.estate.specs.Pairs.{with-all, pairwise, none-above}
 use Rattle.estate.specs.Division.{divides, Agrees}
@@ -19,10 +19,10 @@ module _ (d : ℕ) where
   below-from : (cs xs : List ℕ) → length xs ≡ length cs → none-above d cs xs ≡ true → (i : ℕ) → getD xs i 0 ≤ d * getD cs i 0
   unfolding none-above
   below-from [] [] l h i = omega arith
-  below-from [] (x ∷ xs) l h i = absurd (omega (arith, l))
-  below-from (c ∷ cs) [] l h i = absurd (omega (arith, l))
+  below-from [] (x ∷ xs) l h i = absurd (omega arith)
+  below-from (c ∷ cs) [] l h i = absurd (omega arith)
   below-from (c ∷ cs) (x ∷ xs) l h zero = leb-true _ _ (and-parts _ _ h .0)
-  below-from (c ∷ cs) (x ∷ xs) l h (suc i) = below-from cs xs (omega (arith, l)) (and-parts _ _ h .1) i
+  below-from (c ∷ cs) (x ∷ xs) l h (suc i) = below-from cs xs (omega arith) (and-parts _ _ h .1) i
 
   below-to : (cs xs : List ℕ) → ((i : ℕ) → getD xs i 0 ≤ d * getD cs i 0) → none-above d cs xs ≡ true
   unfolding none-above
@@ -34,35 +34,35 @@ module _ (d : ℕ) where
     with-all-from : a ≤ d * c → (ks xs : List ℕ) → length xs ≡ length ks → with-all d a c ks xs ≡ true → (j : ℕ) → As-two (d * c) (d * getD ks j 0) a (getD xs j 0)
     unfolding with-all
     with-all-from b [] [] l h j = omega arith
-    with-all-from b [] (x ∷ xs) l h j = absurd (omega (arith, l))
-    with-all-from b (k ∷ ks) [] l h j = absurd (omega (arith, l))
+    with-all-from b [] (x ∷ xs) l h j = absurd (omega arith)
+    with-all-from b (k ∷ ks) [] l h j = absurd (omega arith)
     with-all-from b (k ∷ ks) (x ∷ xs) l h zero = eqb-true _ _ (and-parts _ _ h .0)
-    with-all-from b (k ∷ ks) (x ∷ xs) l h (suc j) = with-all-from b ks xs (omega (arith, l)) (and-parts _ _ h .1) j
+    with-all-from b (k ∷ ks) (x ∷ xs) l h (suc j) = with-all-from b ks xs (omega arith) (and-parts _ _ h .1) j
 
     with-all-to : (ks xs : List ℕ) → length xs ≡ length ks → ((j : ℕ) → As-two (d * c) (d * getD ks j 0) a (getD xs j 0)) → with-all d a c ks xs ≡ true
     unfolding with-all
     with-all-to [] xs l h = refl
-    with-all-to (k ∷ ks) [] l h = absurd (omega (arith, l))
-    with-all-to (k ∷ ks) (x ∷ xs) l h = and-from _ _ (eq-eqb _ _ (h 0)) (with-all-to ks xs (omega (arith, l)) (λ j. h (suc j)))
+    with-all-to (k ∷ ks) [] l h = absurd (omega arith)
+    with-all-to (k ∷ ks) (x ∷ xs) l h = and-from _ _ (eq-eqb _ _ (h 0)) (with-all-to ks xs (omega arith) (λ j. h (suc j)))
 
   two-from : (cs xs : List ℕ) → length xs ≡ length cs → ((i : ℕ) → getD xs i 0 ≤ d * getD cs i 0) → pairwise d cs xs ≡ true → (i j : ℕ) → As-two (d * getD cs i 0) (d * getD cs j 0) (getD xs i 0) (getD xs j 0)
   unfolding pairwise
   two-from [] [] l b h i j = omega arith
-  two-from [] (x ∷ xs) l b h i j = absurd (omega (arith, l))
-  two-from (c ∷ cs) [] l b h i j = absurd (omega (arith, l))
+  two-from [] (x ∷ xs) l b h i j = absurd (omega arith)
+  two-from (c ∷ cs) [] l b h i j = absurd (omega arith)
   two-from (c ∷ cs) (x ∷ xs) l b h zero zero = omega arith
-  two-from (c ∷ cs) (x ∷ xs) l b h zero (suc j) = with-all-from x c (b 0) cs xs (omega (arith, l)) (and-parts _ _ h .0) j
+  two-from (c ∷ cs) (x ∷ xs) l b h zero (suc j) = with-all-from x c (b 0) cs xs (omega arith) (and-parts _ _ h .0) j
   two-from (c ∷ cs) (x ∷ xs) l b h (suc i) zero =
-      omega (arith, with-all-from x c (b 0) cs xs (omega (arith, l)) (and-parts _ _ h .0) i)
-  two-from (c ∷ cs) (x ∷ xs) l b h (suc i) (suc j) = two-from cs xs (omega (arith, l)) (λ k. b (suc k)) (and-parts _ _ h .1) i j
+      omega (arith, with-all-from x c (b 0) cs xs (omega arith) (and-parts _ _ h .0) i)
+  two-from (c ∷ cs) (x ∷ xs) l b h (suc i) (suc j) = two-from cs xs (omega arith) (λ k. b (suc k)) (and-parts _ _ h .1) i j
 
   two-to : (cs xs : List ℕ) → length xs ≡ length cs → ((i j : ℕ) → As-two (d * getD cs i 0) (d * getD cs j 0) (getD xs i 0) (getD xs j 0)) → pairwise d cs xs ≡ true
   unfolding pairwise
   two-to [] [] l h = refl
-  two-to [] (x ∷ xs) l h = absurd (omega (arith, l))
-  two-to (c ∷ cs) [] l h = absurd (omega (arith, l))
+  two-to [] (x ∷ xs) l h = absurd (omega arith)
+  two-to (c ∷ cs) [] l h = absurd (omega arith)
   two-to (c ∷ cs) (x ∷ xs) l h =
-      let rest : length xs ≡ length cs = omega (arith, l) in
+      let rest : length xs ≡ length cs = omega arith in
       and-from _ _ (with-all-to x c cs xs rest (λ j. h 0 (suc j))) (two-to cs xs rest (λ i j. h (suc i) (suc j)))
 
   module _ (e : ℕ) (cs xs : List ℕ) where

@@ -1,6 +1,6 @@
+pub mod Rows
 pub mod Facts
 pub mod Plain
-pub mod Sums
 pub mod Compared
 pub mod Losses
 pub mod Without
@@ -9,4 +9,5 @@ pub mod Filled
 pub mod ClosedForm
 pub mod WholeCents
 pub mod SameCents
+pub mod RightAnswers
 pub mod Examples

@@ -1,14 +1,13 @@
 -- The plain law: in finer parts it is the same; it divides between two, and no other division does. Assumes nothing.
-use mathlib.Core.Path.{_≡_, ap}
-use mathlib.Core.Bool.{true}
+use mathlib.Core.Path.{_≡_}
 use mathlib.Core.List.{List, [], _∷_}
-use Prim.Native.Nat.{ℕ, _+_, _*_, _-_, _≤_}
+use Prim.Native.Nat.{ℕ, _*_, _-_}
 use native.Mathlib.Omega.{arith}
 use native.Mathlib.Nat.{mul-sub}
 use lib.ListN.{getD}
 use Rattle.std.proofs.shelf.Ways.{tells}
 use Rattle.estate.specs.Sums.{sum}
-use Rattle.estate.specs.Two.{unclaimed, plainly}
+use Rattle.estate.specs.Two.{plainly}
 use Rattle.estate.specs.Pairs.{with-all, pairwise, none-above}
 use Rattle.estate.specs.Division.{Agrees}
 use Rattle.estate.specs.Promises.{Plain-divides, Only-plain}

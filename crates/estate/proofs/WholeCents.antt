@@ -5,16 +5,16 @@ use mathlib.Core.Bool.{Bool, true, false, cond}
 use mathlib.Core.List.{List, [], _∷_, map}
 use Prim.Native.Nat.{ℕ, zero, suc, _+_, _*_, _-_, _/_, _≤_, _<_}
 use native.Mathlib.Omega.{arith}
-use native.Mathlib.Nat.{le-of-mul-le-mul-left, zero-div}
+use native.Mathlib.Nat.{le-of-mul-le-mul-left, lt-of-mul-lt-mul-left, zero-div}
 use lib.Dec.{ltb}
 use lib.ListN.{length, getD}
 use Rattle.std.proofs.shelf.Lists.{length-map}
 use Rattle.std.proofs.shelf.Tests.{ltb-true, ltb-false}
 use Rattle.estate.specs.Sums.{sum}
-use Rattle.estate.specs.Cents.{downs, lacks-most, one-more, give-left, in-cents}
+use Rattle.estate.specs.Cents.{downs, lacks-most, one-more, give-left, in-cents, Near}
 use Rattle.estate.specs.Promises.{Cents-add-up}
 use Rattle.estate.proofs.Facts.{facts}
-use Rattle.estate.proofs.Sums.{sum-apart}
+use Rattle.estate.proofs.Rows.{getD-map-zero, inside, sum-apart}
 
 module _ (d : ℕ) where
   -- What looking further comes to: nobody lacks more than `most`, and it is still the place `was`; or the one at some j lacks
@@ -63,15 +63,6 @@ sum-one-more [] j h = absurd (omega arith)
 sum-one-more (y ∷ ys) zero h = omega arith
 sum-one-more (y ∷ ys) (suc j) h = omega (arith, sum-one-more ys j (omega arith))
 
-inside : (xs : List ℕ) (j : ℕ) → 0 < getD xs j 0 → j < length xs
-inside [] j h = absurd (omega arith)
-inside (x ∷ xs) zero h = omega arith
-inside (x ∷ xs) (suc j) h = omega (arith, inside xs j h)
-
--- y cents are less than a cent away from x parts, of which a cent has d
-abbrev pub Near : ℕ → ℕ → ℕ → Type 0
-Near d x y = (d * y < x + d) × (x < d * y + d)
-
 -- with the cents ys of the shares xs in hand, n of e are left
 pub record Rounded (d n e : ℕ) (xs ys : List ℕ) : Type 0 where
   pub paired : length xs ≡ length ys
@@ -79,17 +70,15 @@ pub record Rounded (d n e : ℕ) (xs ys : List ℕ) : Type 0 where
   pub near : (i : ℕ) → Near d (getD xs i 0) (getD ys i 0)
 
 module _ (d e : ℕ) (xs : List ℕ) (parted : 0 < d) (whole : sum xs ≡ d * e) where
-  getD-downs : (xs : List ℕ) (i : ℕ) → getD (downs d xs) i 0 ≡ getD xs i 0 / d
-  getD-downs [] i = sym (zero-div d)
-  getD-downs (x ∷ xs) zero = refl
-  getD-downs (x ∷ xs) (suc i) = getD-downs xs i
+  down : (i : ℕ) → getD (downs d xs) i 0 ≡ getD xs i 0 / d
+  down = getD-map-zero (λ x. x / d) (zero-div d) xs
 
   near-down : (i : ℕ) → Near d (getD xs i 0) (getD (downs d xs) i 0)
-  near-down i = rw getD-downs (omega (arith, parted), omega (arith, parted))
+  near-down i = rw (down i) (omega (arith, parted), omega (arith, parted))
 
   rounded-down : Rounded d (e - sum (downs d xs)) e xs (downs d xs)
   rounded-down =
-      let low : d * sum (downs d xs) ≤ d * e = omega (arith, sum-apart d 1 (downs d xs) xs (λ j. rw (getD-downs xs j) (omega (arith, parted))) 0) in
+      let low : d * sum (downs d xs) ≤ d * e = omega (arith, sum-apart d 1 (downs d xs) xs (λ j. rw (down j) (omega (arith, parted))) 0) in
       record {
         paired = sym (length-map xs (λ x. x / d));
         given = omega (arith, le-of-mul-le-mul-left low parted);
@@ -117,8 +106,18 @@ module _ (d e : ℕ) (xs : List ℕ) (parted : 0 < d) (whole : sum xs ≡ d * e)
   pub rounded : Rounded d 0 e xs (in-cents d e xs)
   rounded = rounded-all _ _ rounded-down
 
+none-above-claim : (d c x y : ℕ) → Near d x y → x ≤ d * c → y ≤ c
+none-above-claim d c x y h b =
+    let less : d * y < d * suc c = omega arith in
+    omega (arith, lt-of-mul-lt-mul-left d less)
+
 pub cents-add-up : Cents-add-up
-cents-add-up d e i cs xs h _ =
+cents-add-up d e cs xs h =
     let p = facts d e cs xs h in
     let r = rounded d e xs (p .parted) (p .whole) in
-    (omega (arith, r .given), r .near i .0, r .near i .1)
+    record {
+      paired = sym (r .paired) ∙ p .paired;
+      whole = omega (arith, r .given);
+      near = r .near;
+      below = λ i. none-above-claim d _ _ _ (r .near i) (p .below i);
+    }

@@ -8,7 +8,7 @@ use Rattle.std.specs.Orderings.{Decides}
 use Rattle.estate.specs.Sums.{sum}
 use Rattle.estate.specs.Two.{plainly}
 use Rattle.estate.specs.Division.{divides, Agrees}
-use Rattle.estate.specs.Cents.{in-cents}
+use Rattle.estate.specs.Cents.{in-cents, Pays}
 use Rattle.estate.specs.Closed.{denominator, division}
 
 -- a division is what agrees with the plain law between each two
@@ -48,7 +48,7 @@ More-there =
 -- who claims more gets no less, and loses no less
 abbrev pub Larger-claims : Type 0
 Larger-claims =
-    (d e i j : ℕ) (cs xs : List ℕ) → divides d e cs xs ≡ true → i < length cs → j < length cs → getD cs i 0 ≤ getD cs j 0 → (getD xs i 0 ≤ getD xs j 0) × (d * getD cs i 0 - getD xs i 0 ≤ d * getD cs j 0 - getD xs j 0)
+    (d e i j : ℕ) (cs xs : List ℕ) → divides d e cs xs ≡ true → getD cs i 0 ≤ getD cs j 0 → (getD xs i 0 ≤ getD xs j 0) × (d * getD cs i 0 - getD xs i 0 ≤ d * getD cs j 0 - getD xs j 0)
 
 -- what each creditor loses of its claim
 unfoldable pub losses : ℕ → List ℕ → List ℕ → List ℕ
@@ -71,10 +71,9 @@ abbrev pub Who-goes : Type 0
 Who-goes =
     (d e i x : ℕ) (cs xs : List ℕ) → divides d e cs xs ≡ true → i < length cs → getD xs i 0 ≡ d * x → divides d (e - x) (without cs i) (without xs i) ≡ true
 
--- whole cents add up, and nobody has a cent more or less than the share
+-- whole cents add up, and nobody has a cent more or less than the share, or more than the claim
 abbrev pub Cents-add-up : Type 0
-Cents-add-up =
-    (d e i : ℕ) (cs xs : List ℕ) → divides d e cs xs ≡ true → i < length cs → (sum (in-cents d e xs) ≡ e) × (d * getD (in-cents d e xs) i 0 < getD xs i 0 + d) × (getD xs i 0 < d * getD (in-cents d e xs) i 0 + d)
+Cents-add-up = (d e : ℕ) (cs xs : List ℕ) → divides d e cs xs ≡ true → Pays d e cs xs (in-cents d e xs)
 
 -- whole cents do not depend on the parts that the shares are in
 abbrev pub Same-cents : Type 0

@@ -43,3 +43,11 @@ says e (garbled n) = refused unreadable n
 
 abbrev pub answered : Limits → Estate → Call → Answer
 answered l e c = cond (eqb (turned l e c) 0) (says e c) (refused (turned l e c) (place c (turned l e c)))
+
+-- the answer that is given is right
+abbrev pub Answered-right : Type 0
+Answered-right = (l : Limits) (e : Estate) (c : Call) → right l e c (answered l e c)
+
+-- of cents no other answer is
+abbrev pub Cents-one-answer : Type 0
+Cents-one-answer = (e : Estate) (a : Answer) → may-say e cents a → a ≡ says e cents

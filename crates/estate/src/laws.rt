@@ -5,6 +5,7 @@ ghost use lib.Dec.{leb};
 ghost use Rattle.std.specs.Numbers.{Checked};
 ghost use Rattle.estate.specs.Two.{plainly};
 ghost use Rattle.estate.specs.Promises.{Agrees-with-law, Plain-divides, Only-plain, Just-one, There-is-one, Closed-divides, More-there, Larger-claims, Lost-alike, Who-goes, Cents-add-up, Same-cents};
+ghost use Rattle.estate.specs.Right.{Answered-right, Cents-one-answer};
 
 // What a claim has of what is there beside one other claim, in half cents: what the other does not claim, and half of what
 // both claim.
@@ -35,6 +36,7 @@ pub fn most_parts(creditors: u32) -> u64
     ensures value { λ r. ⌜ r ≡ max 1 (2 * creditors) ⌝ }
     ensures there_is_one { λ _. ⌜ There-is-one ⌝ }
     ensures closed_divides { λ _. ⌜ Closed-divides ⌝ }
+    ensures answered_right { λ _. ⌜ Answered-right ⌝ }
 {
     (2 * u64::from(creditors)).max(1)
 }
@@ -54,6 +56,7 @@ pub fn rounded_down(d: u64, share: u64) -> Option<u64>
     ensures value { λ r. ⌜ Checked r (0 < d) (share / d) ⌝ }
     ensures cents_add_up { λ _. ⌜ Cents-add-up ⌝ }
     ensures same_cents { λ _. ⌜ Same-cents ⌝ }
+    ensures cents_one_answer { λ _. ⌜ Cents-one-answer ⌝ }
 {
     share.checked_div(d)
 }
