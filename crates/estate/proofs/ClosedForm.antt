@@ -1,8 +1,8 @@
 -- The closed form divides: where little is there by what is filled in, otherwise by what is lost. Assumes nothing.
-use mathlib.Core.Path.{_≡_, refl, ap, sym, _∙_}
+use mathlib.Core.Path.{_≡_, refl, ap}
 use mathlib.Core.Bool.{Bool, true, false, cond}
 use mathlib.Core.List.{List, [], _∷_, map}
-use Prim.Native.Nat.{ℕ, zero, suc, _+_, _*_, _-_, _≤_, _<_, min, max}
+use Prim.Native.Nat.{ℕ, _*_, _-_, _≤_, _<_, max}
 use native.Mathlib.Omega.{arith}
 use lib.ListN.{length, getD}
 use Rattle.std.proofs.shelf.Lists.{length-map}
@@ -12,9 +12,9 @@ use Rattle.estate.specs.Order.{sorted}
 use Rattle.estate.specs.Level.{Level, fill, scarce, target}
 use Rattle.estate.specs.Closed.{half, share, denominator, division}
 use Rattle.estate.specs.Promises.{losses, Closed-divides, There-is-one}
+use Rattle.estate.specs.Division.{Agrees}
 use Rattle.estate.proofs.Rows.{getD-map-zero}
 use Rattle.estate.proofs.Facts.{from-facts}
-use Rattle.estate.specs.Division.{Agrees}
 use Rattle.estate.proofs.Losses.{losses-agree}
 use Rattle.estate.proofs.Ordered.{sum-map-sorted, sum-sorted, length-sorted, rising-sorted}
 use Rattle.estate.proofs.Filled.{few-share, some-share, filled}

@@ -1,16 +1,16 @@
 -- Divisions compared, and creditors: more there is nobody's loss, so there is just one; who claims more gets no less and
 -- loses no less. Assumes nothing.
-use mathlib.Core.Path.{_≡_, ap, _∙_}
+use mathlib.Core.Path.{ap, _∙_}
 use mathlib.Core.Logic.{_⊎_, inl, inr}
 use mathlib.Core.List.{List}
-use Prim.Native.Nat.{ℕ, _+_, _*_, _-_, _≤_, _<_}
+use Prim.Native.Nat.{ℕ, _*_, _-_, _≤_, _<_}
 use native.Mathlib.Omega.{arith}
 use native.Mathlib.Nat.{mul-le-mul-left}
 use lib.ListN.{getD}
 use Rattle.std.proofs.shelf.Tests.{cases-lt}
 use Rattle.estate.specs.Division.{Agrees}
-use Rattle.estate.proofs.Rows.{sum-apart}
 use Rattle.estate.specs.Promises.{More-there, Just-one, Larger-claims}
+use Rattle.estate.proofs.Rows.{sum-apart}
 use Rattle.estate.proofs.Facts.{facts}
 use Rattle.estate.proofs.Plain.{plainly-finer}
 

@@ -2,11 +2,10 @@
 use mathlib.Core.Path.{_≡_, refl}
 use mathlib.Core.Bool.{true}
 use mathlib.Core.List.{List, [], _∷_}
-use Prim.Native.Nat.{ℕ, zero, suc, _+_, _*_, _-_, _≤_, _<_}
+use Prim.Native.Nat.{ℕ, zero, suc, _+_, _*_, _-_, _≤_}
 use native.Mathlib.Omega.{arith}
 use lib.ListN.{length, getD}
 use Rattle.std.proofs.shelf.Tests.{and-parts, and-from, ltb-true, lt-ltb, leb-true, le-leb, eqb-true, eq-eqb}
-use Rattle.estate.specs.Sums.{sum}
 use Rattle.estate.specs.Pairs.{with-all, pairwise, none-above}
 use Rattle.estate.specs.Division.{divides, Agrees}
 use Rattle.estate.specs.Promises.{Agrees-with-law}
@@ -16,7 +15,13 @@ abbrev As-two : ℕ → ℕ → ℕ → ℕ → Type 0
 As-two c k a b = 2 * a + (a + b - c) ≡ a + b + (a + b - k)
 
 module _ (d : ℕ) where
-  below-from : (cs xs : List ℕ) → length xs ≡ length cs → none-above d cs xs ≡ true → (i : ℕ) → getD xs i 0 ≤ d * getD cs i 0
+  abbrev Below : List ℕ → List ℕ → Type 0
+  Below cs xs = (i : ℕ) → getD xs i 0 ≤ d * getD cs i 0
+
+  abbrev Each-two : List ℕ → List ℕ → Type 0
+  Each-two cs xs = (i j : ℕ) → As-two (d * getD cs i 0) (d * getD cs j 0) (getD xs i 0) (getD xs j 0)
+
+  below-from : (cs xs : List ℕ) → length xs ≡ length cs → none-above d cs xs ≡ true → Below cs xs
   unfolding none-above
   below-from [] [] l h i = omega arith
   below-from [] (x ∷ xs) l h i = absurd (omega arith)
@@ -24,7 +29,7 @@ module _ (d : ℕ) where
   below-from (c ∷ cs) (x ∷ xs) l h zero = leb-true _ _ (and-parts _ _ h .0)
   below-from (c ∷ cs) (x ∷ xs) l h (suc i) = below-from cs xs (omega arith) (and-parts _ _ h .1) i
 
-  below-to : (cs xs : List ℕ) → ((i : ℕ) → getD xs i 0 ≤ d * getD cs i 0) → none-above d cs xs ≡ true
+  below-to : (cs xs : List ℕ) → Below cs xs → none-above d cs xs ≡ true
   unfolding none-above
   below-to [] xs h = refl
   below-to (c ∷ cs) [] h = refl
@@ -45,7 +50,7 @@ module _ (d : ℕ) where
     with-all-to (k ∷ ks) [] l h = absurd (omega arith)
     with-all-to (k ∷ ks) (x ∷ xs) l h = and-from _ _ (eq-eqb _ _ (h 0)) (with-all-to ks xs (omega arith) (λ j. h (suc j)))
 
-  two-from : (cs xs : List ℕ) → length xs ≡ length cs → ((i : ℕ) → getD xs i 0 ≤ d * getD cs i 0) → pairwise d cs xs ≡ true → (i j : ℕ) → As-two (d * getD cs i 0) (d * getD cs j 0) (getD xs i 0) (getD xs j 0)
+  two-from : (cs xs : List ℕ) → length xs ≡ length cs → Below cs xs → pairwise d cs xs ≡ true → Each-two cs xs
   unfolding pairwise
   two-from [] [] l b h i j = omega arith
   two-from [] (x ∷ xs) l b h i j = absurd (omega arith)
@@ -56,7 +61,7 @@ module _ (d : ℕ) where
       omega (arith, with-all-from x c (b 0) cs xs (omega arith) (and-parts _ _ h .0) i)
   two-from (c ∷ cs) (x ∷ xs) l b h (suc i) (suc j) = two-from cs xs (omega arith) (λ k. b (suc k)) (and-parts _ _ h .1) i j
 
-  two-to : (cs xs : List ℕ) → length xs ≡ length cs → ((i j : ℕ) → As-two (d * getD cs i 0) (d * getD cs j 0) (getD xs i 0) (getD xs j 0)) → pairwise d cs xs ≡ true
+  two-to : (cs xs : List ℕ) → length xs ≡ length cs → Each-two cs xs → pairwise d cs xs ≡ true
   unfolding pairwise
   two-to [] [] l h = refl
   two-to [] (x ∷ xs) l h = absurd (omega arith)
@@ -83,7 +88,7 @@ module _ (d : ℕ) where
         }
 
     module _ (p : Agrees d e cs xs) where
-      two : (i j : ℕ) → As-two (d * getD cs i 0) (d * getD cs j 0) (getD xs i 0) (getD xs j 0)
+      two : Each-two cs xs
       two i j = omega (arith, p .plain i j, p .below i, p .below j)
 
       pub from-facts : divides d e cs xs ≡ true

@@ -6,9 +6,9 @@ use native.Mathlib.Omega.{arith}
 use native.Mathlib.Nat.{mul-sub}
 use lib.ListN.{length, getD}
 use Rattle.estate.specs.Sums.{sum}
+use Rattle.estate.specs.Division.{Agrees}
 use Rattle.estate.specs.Promises.{losses, Lost-alike}
 use Rattle.estate.proofs.Facts.{facts, from-facts}
-use Rattle.estate.specs.Division.{Agrees}
 
 module _ (d : ℕ) where
   length-losses : (cs xs : List ℕ) → length xs ≡ length cs → length (losses d cs xs) ≡ length cs

@@ -1,13 +1,12 @@
 -- The answer that is given is right, and to cents no other is. Assumes nothing.
 use mathlib.Core.Path.{_≡_, refl, ap, _∙_}
 use mathlib.Core.Bool.{Bool, true, false, cond}
-use Prim.Native.Nat.{ℕ}
 use native.Mathlib.Omega.{arith}
 use lib.Dec.{eqb}
 use Rattle.std.proofs.shelf.Tests.{false≢true}
 use Rattle.estate.specs.Closed.{denominator, division}
 use Rattle.estate.specs.Calls.{Call, claims, proves, comes, shares, cents, garbled}
-use Rattle.estate.specs.Answers.{Answer, amounts, refused}
+use Rattle.estate.specs.Answers.{amounts, refused}
 use Rattle.estate.specs.Limits.{Limits}
 use Rattle.estate.specs.Estates.{Estate, counted, divided, Shared}
 use Rattle.estate.specs.Refusals.{turned, place}

@@ -1,19 +1,18 @@
 -- The same shares in parts of another size come to the same whole cents. Assumes nothing.
-use mathlib.Core.Path.{_≡_, refl, ap, sym, _∙_}
+use mathlib.Core.Path.{_≡_, refl, sym, _∙_}
 use mathlib.Core.Bool.{Bool, true, false, cond}
-use mathlib.Core.List.{List, [], _∷_, map}
-use Prim.Native.Nat.{ℕ, zero, suc, _+_, _*_, _-_, _/_, _≤_, _<_}
+use mathlib.Core.List.{List, [], _∷_}
+use Prim.Native.Nat.{ℕ, zero, suc, _*_, _-_, _/_, _<_}
 use native.Mathlib.Omega.{arith}
 use native.Mathlib.Nat.{mul-comm, mul-sub, mul-div-mul-right, lt-of-mul-lt-mul-right, mul-lt-mul-of-pos-right}
 use lib.Dec.{ltb}
 use lib.ListN.{length, getD}
 use Rattle.std.specs.shelf.Lists.{Each}
 use Rattle.std.proofs.shelf.Ways.{same-from-decides, decides-like, decides-ltb}
-use Rattle.estate.specs.Sums.{sum}
 use Rattle.estate.specs.Promises.{Same-cents}
+use Rattle.estate.specs.Cents.{downs, lacks-most, give-left, in-cents}
 use Rattle.estate.proofs.Facts.{facts}
 use Rattle.estate.proofs.Compared.{just-one}
-use Rattle.estate.specs.Cents.{downs, lacks-most, one-more, give-left, in-cents}
 
 ltb-times : (k x y : ℕ) → 0 < k → ltb x y ≡ ltb (x * k) (y * k)
 ltb-times k x y h =

@@ -6,9 +6,9 @@ use native.Mathlib.Omega.{arith}
 use native.Mathlib.Nat.{mul-sub}
 use lib.ListN.{length, getD}
 use Rattle.estate.specs.Sums.{sum}
+use Rattle.estate.specs.Division.{Agrees}
 use Rattle.estate.specs.Promises.{without, Who-goes}
 use Rattle.estate.proofs.Facts.{facts, from-facts}
-use Rattle.estate.specs.Division.{Agrees}
 
 -- where the one at j stood before the one at i went
 abbrev stood : ℕ → ℕ → ℕ
