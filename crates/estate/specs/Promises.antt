@@ -2,7 +2,7 @@
 use mathlib.Core.Path.{_≡_}
 use mathlib.Core.Bool.{true}
 use mathlib.Core.List.{List, [], _∷_}
-use Prim.Native.Nat.{ℕ, zero, suc, _+_, _*_, _-_, _≤_, _<_, max}
+use Prim.Native.Nat.{ℕ, zero, suc, _+_, _*_, _-_, _≤_, max}
 use lib.ListN.{length, getD}
 use Rattle.std.specs.Orderings.{Decides}
 use Rattle.estate.specs.Sums.{sum}
@@ -61,6 +61,7 @@ abbrev pub Lost-alike : Type 0
 Lost-alike =
     (d e : ℕ) (cs xs : List ℕ) → divides d e cs xs ≡ true → divides d (sum cs - e) cs (losses d cs xs) ≡ true
 
+-- a row when the one at a place has gone
 unfoldable pub without : List ℕ → ℕ → List ℕ
 without [] i = []
 without (x ∷ xs) zero = xs
@@ -69,7 +70,7 @@ without (x ∷ xs) (suc i) = x ∷ without xs i
 -- who is paid a whole number of cents and goes changes nothing for the others
 abbrev pub Who-goes : Type 0
 Who-goes =
-    (d e i x : ℕ) (cs xs : List ℕ) → divides d e cs xs ≡ true → i < length cs → getD xs i 0 ≡ d * x → divides d (e - x) (without cs i) (without xs i) ≡ true
+    (d e i x : ℕ) (cs xs : List ℕ) → divides d e cs xs ≡ true → getD xs i 0 ≡ d * x → divides d (e - x) (without cs i) (without xs i) ≡ true
 
 -- whole cents add up, and nobody has a cent more or less than the share, or more than the claim
 abbrev pub Cents-add-up : Type 0
