@@ -46,12 +46,14 @@ unfolding sum
 at-level v c h [] above = omega arith
 at-level v c h (k ∷ ks) above = omega (arith, mul-le-mul-left (v .sharers) (above .0), at-level v c h ks (above .1))
 
-times-rest : (m n c : ℕ) → c ≤ n → m * n ≡ m * c + m * (n - c)
-times-rest m n c h = omega (arith, mul-sub m n c, mul-le-mul-left m h)
+-- the least is filled, and the rest goes on
+filled-more : (n c s : ℕ) (v : Level) → c ≤ n → v .sharers * c ≤ v .spread → s ≡ v .sharers * (n - c) → half v c + s ≡ v .sharers * n
+filled-more n c s v h below rest = omega (arith, mul-sub (v .sharers) n c, mul-le-mul-left (v .sharers) h)
 
 pub filled : (n : ℕ) (cs : List ℕ) → Rising cs → n ≤ sum cs → sum (map (half (fill n cs)) cs) ≡ fill n cs .sharers * n
 unfolding sum fill
 filled n [] rise h = omega arith
 filled n (c ∷ cs) rise h =
-    let head = rising-head c cs rise in
-    by-step n c cs (λ v. sum (map (half v) (c ∷ cs)) ≡ v .sharers * n) (λ t. at-level _ c t (c ∷ cs) (omega arith, head)) (λ t. omega (arith, reaches (n - c) c cs head (omega arith), filled (n - c) cs (rising-tail c cs rise) (omega arith), times-rest (fill (n - c) cs .sharers) n c (omega arith)))
+    let above = rising-head c cs rise in
+    let rest = filled (n - c) cs (rising-tail c cs rise) (omega arith) in
+    by-step n c cs (λ v. sum (map (half v) (c ∷ cs)) ≡ v .sharers * n) (λ t. at-level _ c t (c ∷ cs) (omega arith, above)) (λ t. filled-more n c _ (fill (n - c) cs) (omega arith) (reaches (n - c) c cs above (omega arith)) rest)

@@ -1,7 +1,7 @@
 -- Claims in order: they rise, and they are the same claims, so that every sum over them stays. Assumes nothing.
 use mathlib.Core.Path.{_≡_, refl, ap, _∙_}
 use mathlib.Core.List.{List, [], _∷_, map}
-use Prim.Native.Nat.{ℕ, zero, suc, _+_, _≤_}
+use Prim.Native.Nat.{ℕ, zero, suc, _+_, _≤_, _<_}
 use native.Mathlib.Omega.{arith}
 use lib.Dec.{leb}
 use lib.ListN.{length}
@@ -59,12 +59,18 @@ all-insert P c [] here rest = (here, tt)
 all-insert P c (k ∷ ks) here rest =
     cond-both (leb c k) _ _ (All P) (λ _. (here, rest)) (λ _. (rest .0, all-insert P c ks here (rest .1)))
 
+rising-first : (c k : ℕ) (ks : List ℕ) → c ≤ k → Rising (k ∷ ks) → Rising (c ∷ k ∷ ks)
+rising-first c k ks h rise =
+    let rest = all-weaker (λ y. k ≤ y) (λ y. c ≤ y) (λ y less. omega arith) ks (rising-head k ks rise) in
+    rising-cons c (k ∷ ks) (h, rest) rise
+
 pub rising-insert : (c : ℕ) (ks : List ℕ) → Rising ks → Rising (insert c ks)
 unfolding insert
 rising-insert c [] rise = rising-cons c [] tt rise
 rising-insert c (k ∷ ks) rise =
-    let head = rising-head k ks rise in
-    cond-both (leb c k) _ _ Rising (λ t. rising-cons c (k ∷ ks) (leb-true c k t, all-weaker (λ y. k ≤ y) (λ y. c ≤ y) (λ y h. omega (arith, leb-true c k t)) ks head) rise) (λ t. rising-cons k (insert c ks) (all-insert (λ y. k ≤ y) c ks (omega (arith, leb-false c k t)) head) (rising-insert c ks (rising-tail k ks rise)))
+    let rest = rising-insert c ks (rising-tail k ks rise) in
+    let above = λ (h : k < c). all-insert (λ y. k ≤ y) c ks (omega arith) (rising-head k ks rise) in
+    cond-both (leb c k) _ _ Rising (λ t. rising-first c k ks (leb-true c k t) rise) (λ t. rising-cons k _ (above (leb-false c k t)) rest)
 
 pub rising-sorted : (cs : List ℕ) → Rising (sorted cs)
 unfolding sorted
