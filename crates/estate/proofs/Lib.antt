@@ -5,6 +5,8 @@ pub mod Compared
 pub mod Losses
 pub mod Without
 pub mod Ordered
+pub mod Reordered
+pub mod SameClaims
 pub mod Filled
 pub mod ClosedForm
 pub mod WholeCents
