@@ -1,0 +1,5 @@
+pub mod Parts
+pub mod InOrder
+pub mod AsLists
+pub mod Keeping
+pub mod Entering
