@@ -1,0 +1,5 @@
+// Registers written out by hand, before and after.
+#[cfg(test)]
+mod parts;
+#[cfg(test)]
+mod registers;
