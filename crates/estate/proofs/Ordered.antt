@@ -3,7 +3,7 @@ use mathlib.Core.Path.{_≡_, refl, ap, _∙_}
 use mathlib.Core.List.{List, [], _∷_, map}
 use Prim.Native.Nat.{ℕ, zero, suc, _+_, _≤_, _<_}
 use native.Mathlib.Omega.{arith}
-use lib.Dec.{leb}
+use lib.Dec.{leb, eqb}
 use lib.ListN.{length}
 use Rattle.std.specs.shelf.Lists.{All}
 use Rattle.std.specs.shelf.Sorted.{Rising}
@@ -12,7 +12,7 @@ use Rattle.std.proofs.shelf.Tests.{leb-true, leb-false, cond-both}
 use Rattle.std.proofs.shelf.Elements.{all-getD, all-from-getD, all-weaker}
 use Rattle.std.proofs.shelf.Sorted.{rises-short}
 use Rattle.estate.specs.Sums.{sum}
-use Rattle.estate.specs.Order.{insert, sorted}
+use Rattle.estate.specs.Order.{insert, remove, sorted}
 
 module _ (f : ℕ → ℕ) where
   sum-map-insert : (c : ℕ) (ks : List ℕ) → sum (map f (insert c ks)) ≡ f c + sum (map f ks)
@@ -71,6 +71,20 @@ rising-insert c (k ∷ ks) rise =
     let rest = rising-insert c ks (rising-tail k ks rise) in
     let above = λ (h : k < c). all-insert (λ y. k ≤ y) c ks (omega arith) (rising-head k ks rise) in
     cond-both (leb c k) _ _ Rising (λ t. rising-first c k ks (leb-true c k t) rise) (λ t. rising-cons k _ (above (leb-false c k t)) rest)
+
+all-remove : (P : ℕ → Type 0) (c : ℕ) (ks : List ℕ) → All P ks → All P (remove c ks)
+unfolding remove
+all-remove P c [] rest = tt
+all-remove P c (k ∷ ks) rest =
+    cond-both (eqb c k) _ _ (All P) (λ _. rest .1) (λ _. (rest .0, all-remove P c ks (rest .1)))
+
+pub rising-remove : (c : ℕ) (ks : List ℕ) → Rising ks → Rising (remove c ks)
+unfolding remove
+rising-remove c [] rise = rise
+rising-remove c (k ∷ ks) rise =
+    let rest = rising-remove c ks (rising-tail k ks rise) in
+    let above = all-remove (λ y. k ≤ y) c ks (rising-head k ks rise) in
+    cond-both (eqb c k) _ _ Rising (λ _. rising-tail k ks rise) (λ _. rising-cons k _ above rest)
 
 pub rising-sorted : (cs : List ℕ) → Rising (sorted cs)
 unfolding sorted

@@ -9,7 +9,7 @@ use Rattle.std.specs.shelf.Lists.{inserted, removed}
 use Rattle.std.proofs.shelf.Lists.{places, take-all, drop-all, ext-getD}
 use Rattle.std.proofs.shelf.Tests.{cases-order}
 use Rattle.estate.specs.Order.{insert}
-use Rattle.estate.proofs.Ordered.{rising-insert, rising-sorted}
+use Rattle.estate.proofs.Ordered.{rising-insert, rising-remove, rising-sorted}
 use Rattle.estate.proofs.SameClaims.{same-sorted, only-sorted}
 use Rattle.register.specs.Row.{part, Fits}
 use Rattle.register.specs.Laws.{Inserts, Removes, Replaces, One-place, Not-in, Stays-rising, Ascending, Only-ascending}
@@ -65,7 +65,7 @@ pub not-in : Not-in
 not-in low n c ws room m rise h = missing-in-order (part low n ws) c rise (missing-part low n c ws room m) h
 
 pub stays-rising : Stays-rising
-stays-rising c ks rise = rising-insert c ks rise
+stays-rising c ks rise = (rising-insert c ks rise, rising-remove c ks rise)
 
 pub ascending : Ascending
 ascending cs = (rising-sorted cs, same-sorted cs)

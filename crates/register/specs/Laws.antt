@@ -37,9 +37,9 @@ abbrev pub Not-in : Type 0
 Not-in =
     (low n c : ℕ) (ws : List ℕ) → low + n ≤ length ws → Missing low (low + n) c ws → Rising (part low n ws) → Has (part low n ws) c → ⊥
 
--- Ascending claims stay so with one more.
+-- Ascending claims stay so with one more, and with one less.
 abbrev pub Stays-rising : Type 0
-Stays-rising = (c : ℕ) (ks : List ℕ) → Rising ks → Rising (insert c ks)
+Stays-rising = (c : ℕ) (ks : List ℕ) → Rising ks → Rising (insert c ks) × Rising (remove c ks)
 
 -- Claims in order ascend, and they are the same claims: each is there as often as it came.
 abbrev pub Ascending : Type 0
