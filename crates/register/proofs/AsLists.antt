@@ -1,5 +1,5 @@
 -- The contracts of a row, said in lists. Assumes nothing.
-use mathlib.Core.Path.{_≡_, ap, _∙_}
+use mathlib.Core.Path.{_≡_, sym, ap, subst, _∙_}
 use mathlib.Core.Logic.{⊎-elim}
 use mathlib.Core.List.{List, [], _∷_, _++_}
 use Prim.Native.Nat.{ℕ, _+_, _-_, _≤_, _<_}
@@ -8,13 +8,14 @@ use lib.ListN.{length, getD, take, drop}
 use Rattle.std.specs.shelf.Lists.{inserted, removed}
 use Rattle.std.proofs.shelf.Lists.{places, take-all, drop-all, ext-getD}
 use Rattle.std.proofs.shelf.Tests.{cases-order}
+use Rattle.std.specs.shelf.Sorted.{Rising}
 use Rattle.estate.specs.Order.{insert}
 use Rattle.estate.proofs.Ordered.{rising-insert, rising-remove, rising-sorted}
 use Rattle.estate.proofs.SameClaims.{same-sorted, only-sorted}
 use Rattle.register.specs.Row.{part, Fits}
 use Rattle.register.specs.Laws.{Inserts, Removes, Replaces, One-place, Not-in, Stays-rising, Ascending, Only-ascending}
 use Rattle.register.proofs.Parts.{in-part, fits-part, stands-part, missing-part, goes-part}
-use Rattle.register.proofs.InOrder.{inserted-in-order, removed-in-order, missing-in-order, goes-in-order, rising-removed}
+use Rattle.register.proofs.InOrder.{inserted-in-order, removed-in-order, missing-in-order, goes-in-order}
 
 last-removed : (ks : List ℕ) (n m : ℕ) → n + 1 ≤ length ks → m ≡ n → removed (take (n + 1) ks) m ≡ take n ks
 last-removed ks n m room same = ext-getD 0 _ _ (grind (arith, places)) (λ k h. grind (arith, places))
@@ -42,7 +43,8 @@ replaces low n old c from to ws new r =
     let goes = goes-part low n c ws (r .room) from to (s .fits .above) (s .within) (r .goes) in (
       in-part low n from to c ws new (r .carried) (r .room) (s .fits .above) (r .goes .above) (s .within) (r .goes .within),
       λ rise.
-          let rest = rising-removed ks (from - low) rise (here .within) in
+          let out = removed-in-order ks old (from - low) rise here in
+          let rest = subst Rising (sym out) (rising-remove old ks rise) in
           let fits = goes-in-order ks (from - low) c (to - low) rise (here .within) goes in
           inserted-in-order (removed ks (from - low)) c (to - low) rest fits ∙ ap (insert c) (removed-in-order ks old (from - low) rise here),
     )

@@ -55,9 +55,6 @@ missing-in-order ks c rise m h =
     (λ (t : m .at ≤ h .0). omega (arith, m .other (omega (arith, h .1)), rise (m .at) (h .0) 0 t (h .1), h .2 0))
     (cases-lt (h .0) (m .at))
 
-pub rising-removed : (ks : List ℕ) (at : ℕ) → Rising ks → at < length ks → Rising (removed ks at)
-rising-removed ks at rise h i j d l l′ = grind (arith, places, rise i j d, rise i (j + 1) d, rise (i + 1) (j + 1) d)
-
 -- where a claim goes that comes for another, once that is out
 module _ (ks : List ℕ) (from c to : ℕ) (rise : Rising ks) (h : from < length ks) where
   goes-behind : getD ks from 0 < c → Fits (from + 1) (length ks) c ks (to + 1) → Fits 0 (length (removed ks from)) c (removed ks from) to

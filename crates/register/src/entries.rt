@@ -1,5 +1,5 @@
 // Claims and changes entered one after the other.
-ghost use Rattle.register.specs.Entries.{claims-of, Enters, Keeps};
+ghost use Rattle.register.specs.Entries.{claims-of, Done, Keeps};
 ghost use Rattle.register.specs.Laws.{Inserts, Removes, Replaces, One-place, Not-in, Stays-rising, Ascending, Only-ascending, Adds, Changes, Never-out-of-order};
 ghost use Rattle.register.specs.Rows.{middle};
 use crate::rows::add;
@@ -16,7 +16,7 @@ pub enum Entry {
 
 // Enters one, and answers how many claims there are then.
 fn enter(rows: &mut [u64], count: usize, entry: Entry) -> usize
-    ensures { λ r. ⌜ Enters entry (now (rows .entry)) count (now (rows .exit)) r ⌝ }
+    ensures { λ r. ⌜ Done entry count (now (rows .entry)) (now (rows .exit)) r ⌝ }
 {
     match entry {
         Entry::Add(claim) => match add(rows, count, claim) {

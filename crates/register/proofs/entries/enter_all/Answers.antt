@@ -6,7 +6,7 @@ use Rattle.register.specs.Entries.{entered}
 use Rattle.register.specs.declared.entries.Entry.the-variants.{Add}
 use Rattle.register.proofs.AsLists.{inserts, removes, replaces, one-place, not-in, stays-rising, ascending, only-ascending}
 use Rattle.register.proofs.Keeping.{adds, changes, never-out-of-order}
-use Rattle.register.proofs.Entering.{nothing-yet}
+use Rattle.register.proofs.Entering.{nothing-yet, enters}
 use Rattle.register.proofs.entries.enter_all.Needs as need
 
 pub loop-item-holds : need.loop-item-holds
@@ -15,7 +15,7 @@ loop-item-holds c = nothing-yet (c .args .rows .now)
 pub loop-item-again : need.loop-item-again
 loop-item-again c =
     rw (folded-more (entered (middle (c .args .rows .now))) [] (c .args .entries .now) (c .loop-item .item-index) (Add 0) (c .loop-item-test .taken))
-    (c .enter-count .ensures _ _ (c .loop-item .inv))
+    (enters _ _ _ _ _ (c .loop-item .inv) _ _ (c .enter-count .ensures))
 
 pub returns : need.returns
 returns c =
