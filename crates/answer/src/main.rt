@@ -1,4 +1,6 @@
 // Answers a file of calls, or standard input, a line for each call. So far it answers what needs no estate.
+#![tactic(auto)]
+
 ghost use Rattle.std.specs.Prelude.{◌≡◌, true, false, MatchOption, nat_le};
 ghost use Rattle.estate.specs.Limits.{most_cents};
 ghost use Rattle.wire.specs.Meaning.{heard};

@@ -1,6 +1,6 @@
 -- Divisions compared, and creditors: more there is nobody's loss, so there is just one; who claims more gets no less and
 -- loses no less. Assumes nothing.
-use Rattle.std.proofs.Common.{ℕ, ◌-◌, ◌*◌, ◌<◌, ◌≤◌, ◌⊎◌, List, get_or, ap, ◌∙◌, inl, inr, mul-le-mul_left, arith}
+use Rattle.std.proofs.Common.{ℕ, ◌*◌, ◌<◌, ◌≤◌, ◌⊎◌, List, get_or, ap, ◌∙◌, inl, inr, mul-le-mul_left, arith}
 use Rattle.std.proofs.lemmas.Bool.{cases_lt}
 use Rattle.estate.specs.Division.{Agrees}
 use Rattle.estate.specs.Promises.{MoreThere, JustOne, LargerClaims}

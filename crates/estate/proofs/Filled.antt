@@ -1,7 +1,7 @@
 -- Filling claims that rise: some share the level, no more than there are, and what is filled in is all of it. Assumes nothing.
 use Rattle.std.proofs.Common.{◌≡◌, ℕ, suc, ◌+◌, ◌-◌, ◌*◌, ◌<◌, ◌≤◌, leb, List, [], ◌∷◌, map, length, mul-le-mul_left, arith}
 use native.Mathlib.Nat.{mul-sub}
-use Rattle.std.specs.List.{AllByRecursion as All}
+use Rattle.std.specs.List.{AllByRecursion}
 use Rattle.std.specs.List.Sorted.{IsNonDecreasing}
 use Rattle.std.proofs.lemmas.Bool.{leb-true, leb-false, cond_both}
 use Rattle.estate.specs.Sums.{sum}
@@ -35,14 +35,14 @@ spread_below n (c ∷ cs) =
     by_step n c cs (λ v. v.spread ≤ n) (λ _. omega arith) (λ _. omega (arith, spread_below (n - c) cs))
 
 -- a claim that all who are left can have, and none of them claims less, lies below the level
-reaches : (n c : ℕ) (cs : List ℕ) → All (λ k. c ≤ k) cs → length cs * c ≤ n → (fill n cs).sharers * c ≤ (fill n cs).spread
+reaches : (n c : ℕ) (cs : List ℕ) → AllByRecursion (λ k. c ≤ k) cs → length cs * c ≤ n → (fill n cs).sharers * c ≤ (fill n cs).spread
 unfolding fill
 reaches n c [] above h = omega arith
 reaches n c (k ∷ ks) above h =
     by_step n k ks (λ v. v.sharers * c ≤ v.spread) (λ _. h) (λ t. reaches (n - k) c ks above.1 (omega (arith, mul-le-mul_left (length ks) above.0)))
 
 -- all whose claims reach the level have as much
-at_level : (v : Level) (c : ℕ) → v.spread ≤ v.sharers * c → (cs : List ℕ) → All (λ k. c ≤ k) cs → sum (map (half v) cs) ≡ length cs * v.spread
+at_level : (v : Level) (c : ℕ) → v.spread ≤ v.sharers * c → (cs : List ℕ) → AllByRecursion (λ k. c ≤ k) cs → sum (map (half v) cs) ≡ length cs * v.spread
 unfolding sum
 at_level v c h [] above = omega arith
 at_level v c h (k ∷ ks) above = omega (arith, mul-le-mul_left v.sharers above.0, at_level v c h ks above.1)

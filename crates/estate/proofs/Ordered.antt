@@ -1,6 +1,6 @@
 -- Claims in order: they rise, and they are the same claims, so that every sum over them stays. Assumes nothing.
 use Rattle.std.proofs.Common.{◌≡◌, ℕ, zero, suc, ◌+◌, ◌<◌, ◌≤◌, eqb, leb, List, [], ◌∷◌, map, length, refl, ap, ◌∙◌, arith}
-use Rattle.std.specs.List.{AllByRecursion as All}
+use Rattle.std.specs.List.{AllByRecursion}
 use Rattle.std.specs.List.Sorted.{IsNonDecreasing}
 use Rattle.std.proofs.lemmas.List.{map-id}
 use Rattle.std.proofs.lemmas.Bool.{leb-true, leb-false, cond_both}
@@ -35,24 +35,24 @@ unfolding sorted
 length-sorted [] = refl
 length-sorted (c ∷ cs) = length-insert c (sorted cs) ∙ ap suc (length-sorted cs)
 
-rising_cons : (c : ℕ) (ks : List ℕ) → All (λ k. c ≤ k) ks → IsNonDecreasing ks → IsNonDecreasing (c ∷ ks)
+rising_cons : (c : ℕ) (ks : List ℕ) → AllByRecursion (λ k. c ≤ k) ks → IsNonDecreasing ks → IsNonDecreasing (c ∷ ks)
 rising_cons c ks above rise zero zero d h l = omega arith
 rising_cons c ks above rise zero (suc j) d h l = All-get_or _ ks j d (omega arith) above
 rising_cons c ks above rise (suc i) zero d h l = absurd (omega arith)
 rising_cons c ks above rise (suc i) (suc j) d h l = rise i j d (omega arith) (omega arith)
 
 module _ (c : ℕ) (ks : List ℕ) (rise : IsNonDecreasing (c ∷ ks)) where
-  pub rising_head : All (λ k. c ≤ k) ks
+  pub rising_head : AllByRecursion (λ k. c ≤ k) ks
   rising_head = All-from_get_or (λ k. c ≤ k) ks 0 (λ i l. rise 0 (suc i) 0 (omega arith) (omega arith))
 
   pub rising_tail : IsNonDecreasing ks
   rising_tail i j d h l = rise (suc i) (suc j) d (omega arith) (omega arith)
 
-all_insert : (P : ℕ → Type 0) (c : ℕ) (ks : List ℕ) → P c → All P ks → All P (insert c ks)
+all_insert : (P : ℕ → Type 0) (c : ℕ) (ks : List ℕ) → P c → AllByRecursion P ks → AllByRecursion P (insert c ks)
 unfolding insert
 all_insert P c [] here rest = (here, tt)
 all_insert P c (k ∷ ks) here rest =
-    cond_both (leb c k) _ _ (All P) (λ _. (here, rest)) (λ _. (rest.0, all_insert P c ks here rest.1))
+    cond_both (leb c k) _ _ (AllByRecursion P) (λ _. (here, rest)) (λ _. (rest.0, all_insert P c ks here rest.1))
 
 rising_first : (c k : ℕ) (ks : List ℕ) → c ≤ k → IsNonDecreasing (k ∷ ks) → IsNonDecreasing (c ∷ k ∷ ks)
 rising_first c k ks h rise =
@@ -67,11 +67,11 @@ rising_insert c (k ∷ ks) rise =
     let above = λ (h : k < c). all_insert (λ y. k ≤ y) c ks (omega arith) (rising_head k ks rise) in
     cond_both (leb c k) _ _ IsNonDecreasing (λ t. rising_first c k ks (leb-true c k t) rise) (λ t. rising_cons k _ (above (leb-false c k t)) rest)
 
-all_remove : (P : ℕ → Type 0) (c : ℕ) (ks : List ℕ) → All P ks → All P (remove c ks)
+all_remove : (P : ℕ → Type 0) (c : ℕ) (ks : List ℕ) → AllByRecursion P ks → AllByRecursion P (remove c ks)
 unfolding remove
 all_remove P c [] rest = tt
 all_remove P c (k ∷ ks) rest =
-    cond_both (eqb c k) _ _ (All P) (λ _. rest.1) (λ _. (rest.0, all_remove P c ks rest.1))
+    cond_both (eqb c k) _ _ (AllByRecursion P) (λ _. rest.1) (λ _. (rest.0, all_remove P c ks rest.1))
 
 pub rising_remove : (c : ℕ) (ks : List ℕ) → IsNonDecreasing ks → IsNonDecreasing (remove c ks)
 unfolding remove

@@ -1,6 +1,6 @@
 -- Claims in order after one more claim, or one that is another. Assumes nothing.
-use Rattle.std.proofs.Common.{◌≡◌, ℕ, zero, suc, ◌+◌, ◌<◌, leb, List, [], ◌∷◌, ◌++◌, length, get_or, set, refl, ap, ◌∙◌, arith}
-use Rattle.std.specs.List.{remove as removed, ContainsAt as Has}
+use Rattle.std.proofs.Common.{◌≡◌, ℕ, zero, suc, ◌<◌, leb, List, [], ◌∷◌, ◌++◌, length, get_or, set, refl, ap, ◌∙◌, arith}
+use Rattle.std.specs.List.{remove as removed, ContainsAt}
 use Rattle.std.proofs.lemmas.Bool.{cond_both}
 use Rattle.std.proofs.lemmas.Bool.Decides.{nat_tests}
 use Rattle.std.proofs.lemmas.List.{length-set, get_or-set_same, take-set, drop-set-lt}
@@ -24,14 +24,14 @@ sorted_apart [] i h = absurd (omega arith)
 sorted_apart (c ∷ cs) zero h = refl
 sorted_apart (c ∷ cs) (suc i) h = ap (insert c) (sorted_apart cs i (omega arith)) ∙ insert_twice c (get_or cs i 0) (sorted (removed cs i))
 
-has_insert : (c : ℕ) (ks : List ℕ) → Has (insert c ks) c
+has_insert : (c : ℕ) (ks : List ℕ) → ContainsAt (insert c ks) c
 unfolding insert
 has_insert c [] = (0, omega arith, λ d. refl)
 has_insert c (k ∷ ks) =
     let later = has_insert c ks in
-    cond_both (leb c k) _ _ (λ (l : List ℕ). Has l c) (λ t. (0, omega arith, λ d. refl)) (λ t. (suc later.0, omega (arith, later.1), later.2))
+    cond_both (leb c k) _ _ (λ (l : List ℕ). ContainsAt l c) (λ t. (0, omega arith, λ d. refl)) (λ t. (suc later.0, omega (arith, later.1), later.2))
 
-pub has_sorted : (cs : List ℕ) (i : ℕ) → i < length cs → Has (sorted cs) (get_or cs i 0)
+pub has_sorted : (cs : List ℕ) (i : ℕ) → i < length cs → ContainsAt (sorted cs) (get_or cs i 0)
 has_sorted cs i h = rw (sorted_apart cs i h) (has_insert (get_or cs i 0) (sorted (removed cs i)))
 
 remove-insert : (c : ℕ) (ks : List ℕ) → remove c (insert c ks) ≡ ks

@@ -1,6 +1,6 @@
 -- Rows of numbers at every place, where past the end each is 0. Assumes nothing.
 use Rattle.std.proofs.Common.{◌≡◌, ℕ, zero, suc, ◌+◌, ◌-◌, ◌*◌, ◌<◌, ◌≤◌, List, [], ◌∷◌, map, length, get_or, sym, refl, arith}
-use Rattle.std.specs.List.{AllByRecursion as All}
+use Rattle.std.specs.List.{AllByRecursion}
 use Rattle.estate.specs.Sums.{sum}
 
 pub get_or-map_zero : (f : ℕ → ℕ) → f 0 ≡ 0 → (xs : List ℕ) (i : ℕ) → get_or (map f xs) i 0 ≡ f (get_or xs i 0)
@@ -23,7 +23,7 @@ sum_apart d f (x ∷ xs) [] h i = omega (arith, h 0, sum_apart d f xs [] (λ j. 
 sum_apart d f (x ∷ xs) (y ∷ ys) h zero = omega (arith, h 0, sum_apart d f xs ys (λ j. h (suc j)) 0)
 sum_apart d f (x ∷ xs) (y ∷ ys) h (suc i) = omega (arith, h 0, sum_apart d f xs ys (λ j. h (suc j)) i)
 
-pub sum_below : (m : ℕ) (xs : List ℕ) → All (λ x. x ≤ m) xs → sum xs ≤ length xs * m
+pub sum_below : (m : ℕ) (xs : List ℕ) → AllByRecursion (λ x. x ≤ m) xs → sum xs ≤ length xs * m
 unfolding sum
 sum_below m [] h = omega arith
 sum_below m (x ∷ xs) h = omega (arith, h.0, sum_below m xs h.1)

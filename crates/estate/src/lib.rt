@@ -1,4 +1,6 @@
 // The limits of an estate, as its definitions have them, and the examples that its definitions are held to.
+#![tactic(auto)]
+
 ghost use Rattle.std.specs.Prelude.{◌≡◌, length, nat_le};
 ghost use Rattle.std.specs.List.{AllByRecursion};
 ghost use Rattle.estate.specs.Examples.{Worked, table};

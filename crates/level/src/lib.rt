@@ -1,4 +1,6 @@
 // The level: how much each creditor gets of its claim, or loses of it, at most. One fraction decides a whole division.
+#![tactic(auto)]
+
 mod closed;
 mod facts;
 mod filling;

@@ -1,4 +1,6 @@
 // Levels and terms worked out by hand.
+#![tactic(auto)]
+
 #[cfg(test)]
 mod levels;
 #[cfg(test)]

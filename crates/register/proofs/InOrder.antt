@@ -1,7 +1,7 @@
 -- Rows in order: where a claim fits is where it is inserted, and where it stands is where it is removed. Assumes nothing.
 use Rattle.std.proofs.Common.{◌≡◌, ℕ, zero, suc, ◌+◌, ◌-◌, ◌<◌, ◌≤◌, List, [], ◌∷◌, length, get_or, refl, ⊎_elim, arith}
 use native.Mathlib.Numerals.{unary_clauses}
-use Rattle.std.specs.List.{insert as inserted, remove as removed, ContainsAt as Has}
+use Rattle.std.specs.List.{insert as inserted, remove as removed, ContainsAt}
 use Rattle.std.specs.List.Sorted.{IsNonDecreasing}
 use Rattle.std.proofs.lemmas.List.{places}
 use Rattle.std.proofs.lemmas.Bool.Decides.{nat_tests}
@@ -43,7 +43,7 @@ removed_in_order (k ∷ ks) c (suc at) rise s =
     let first = first_smaller k ks c at rise s.fits in
     grind (arith, nat_tests)
 
-pub missing_in_order : (ks : List ℕ) (c : ℕ) → IsNonDecreasing ks → Missing 0 (length ks) c ks → Has ks c → ⊥
+pub missing_in_order : (ks : List ℕ) (c : ℕ) → IsNonDecreasing ks → Missing 0 (length ks) c ks → ContainsAt ks c → ⊥
 missing_in_order ks c rise m h =
     ⊎_elim
     (λ (t : h.0 < m.at). omega (arith, m.fits.before (omega arith), rise h.0 (m.at - 1) 0 (omega arith) (omega (arith, m.fits.within)), h.2 0))

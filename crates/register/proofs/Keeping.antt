@@ -1,9 +1,9 @@
 -- A register keeps its claims, as they came and in order. Assumes nothing.
-use Rattle.std.proofs.Common.{◌≡◌, ℕ, ◌+◌, ◌-◌, ◌/◌, ◌<◌, ◌≤◌, List, [], ◌∷◌, ◌++◌, length, get_or, take, drop, set, sym, refl, ap, ◌∙◌, subst, arith}
+use Rattle.std.proofs.Common.{◌≡◌, ℕ, ◌+◌, ◌/◌, ◌<◌, ◌≤◌, List, [], ◌∷◌, ◌++◌, length, get_or, take, drop, set, sym, refl, ap, ◌∙◌, subst, arith}
 use borrow.Rule.Slice.PartMut.{put_mid}
 use Rattle.std.proofs.lemmas.List.{places, append_assoc, take_at, drop_at, length-set, set-get_or, length_push, set-append_left, set_at, drop_more}
 use Rattle.std.proofs.lemmas.Slice.{drop-append-drop}
-use Rattle.std.specs.List.{ContainsAt as Has}
+use Rattle.std.specs.List.{ContainsAt}
 use Rattle.std.specs.List.Sorted.{IsNonDecreasing}
 use Rattle.estate.specs.Order.{sorted}
 use Rattle.estate.proofs.Ordered.{length-sorted, rising_sorted}
@@ -113,5 +113,5 @@ never_out_of_order i ws cs room m =
     let here : part (middle ws) (length cs) (kept ws cs) ≡ sorted cs = rw set-get_or at (kept_part ws cs room i old (omega arith)) in
     let came = laid_came ws cs (sorted cs) (length-sorted cs) room i there in
     let long = laid_long ws cs (sorted cs) (length-sorted cs) room in
-    let has : Has (part (middle ws) (length cs) (kept ws cs)) old = rw (here, came) (has_sorted cs i there) in
+    let has : ContainsAt (part (middle ws) (length cs) (kept ws cs)) old = rw (here, came) (has_sorted cs i there) in
     not_in (middle ws) (length cs) old (kept ws cs) (omega arith) (rw (kept_middle ws cs room) at m.2) (rw here (rising_sorted cs)) has

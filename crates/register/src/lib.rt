@@ -1,4 +1,6 @@
 // Claims in lent memory, as they came and in order.
+#![tactic(auto)]
+
 mod entries;
 mod row;
 mod rows;

@@ -1,4 +1,6 @@
 // Calls and answers as rows of bytes: one byte for the kind, then numbers of eight bytes each, low byte first.
+#![tactic(auto)]
+
 mod answers;
 mod calls;
 mod refusals;

@@ -9,4 +9,4 @@ returns-then-numbers-at-2 c = behind_other _ _ c.if-numbers-at.false c.if-number
 
 pub returns : goal.returns
 returns c =
-    behind_is _ _ _ c.if-numbers-at.false c.if-numbers-at-2.false (c.in-ok-to-vec.ensures.items-if-clones-equal (λ x y e. e))
+    behind_is _ _ _ c.if-numbers-at.false c.if-numbers-at-2.false (c.in_ok-to_vec.ensures.items_if_clones_equal (λ x y e. e))

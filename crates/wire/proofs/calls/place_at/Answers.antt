@@ -9,4 +9,4 @@ narrowed (Err e) n h = omega (arith, h)
 
 pub returns : goal.returns
 returns c =
-    c.unwrap-or.ensures ∙ narrowed _ _ c.try-from.ensures ∙ ap (λ (n : ℕ). min n 4294967295) c.number-at.ensures
+    c.unwrap_or.ensures ∙ narrowed _ _ c.try_from.ensures ∙ ap (λ (n : ℕ). min n 4294967295) c.number_at.ensures

@@ -8,6 +8,6 @@ loop-i-init c = c.new-list.ensures.items
 
 pub loop-i-preserved : goal.loop-i-preserved
 loop-i-preserved c =
-    let pushed = c.in-ok-push.ensures.items in
+    let pushed = c.in_ok-push.ensures.items in
     let more = numbers_more c.loop-i.i c.args.bytes.now in
     cc

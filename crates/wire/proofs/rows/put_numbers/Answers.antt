@@ -4,7 +4,7 @@ use Rattle.wire.proofs.rows.put_numbers.Goals as goal
 
 pub loop-i-preserved : goal.loop-i-preserved
 loop-i-preserved c =
-    put_more _ _ _ _ _ (omega arith) c.requires c.loop-i.invariant (c.copy-from-slice.ensures.after ∙ c.to-le-bytes.ensures ∙ eight_is _)
+    put_more _ _ _ _ _ (omega arith) c.requires c.loop-i.invariant (c.copy_from_slice.ensures.after ∙ c.to_le_bytes.ensures ∙ eight_is _)
 
 pub returns : goal.returns
 returns c = put_all _ c.loop-i.i _ _ (omega arith) c.loop-i.invariant

@@ -12,16 +12,16 @@ returns-then-bytes-ne1 c = record {
   unique = one_answer;
 }
 
-pub returns-in-err-list : goal.returns-in-err-list
-returns-in-err-list c = record {
-  said = IfOk-from_err _ _ c.from-residual.ensures.0;
+pub returns-in_err-list : goal.returns-in_err-list
+returns-in_err-list c = record {
+  said = IfOk-from_err _ _ c.from_residual.ensures.0;
   back = answer_back;
   unique = one_answer;
 }
 
 pub returns : goal.returns
 returns c = record {
-  said = received_made (option_map told) c.answer_of.result _ _ c.if-bytes-ne1.false (λ i. omega (arith, c.type-inv.bytes i)) (c.as-slice.ensures.value ∙ c.in-ok-list.ensures) c.answer_of.ensures;
+  said = received_made (option_map told) c.answer_of.result _ _ c.if-bytes-ne1.false (λ i. omega (arith, c.type_inv.bytes i)) (c.as_slice.ensures.value ∙ c.in_ok-list.ensures) c.answer_of.ensures;
   back = answer_back;
   unique = one_answer;
 }

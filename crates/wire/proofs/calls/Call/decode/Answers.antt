@@ -10,16 +10,16 @@ use Rattle.wire.proofs.calls.Call.decode.Goals as goal
 
 pub returns : goal.returns
 returns c = record {
-  said = heard_by _ _ (λ i. omega (arith, c.type-inv.bytes i)) c.call-at.ensures;
+  said = heard_by _ _ (λ i. omega (arith, c.type_inv.bytes i)) c.call_at.ensures;
   unique = one_call;
   enough = narrow_enough;
 }
 
-pub returns-in-err-kind : goal.returns-in-err-kind
-returns-in-err-kind c =
-    let place = err_from_is_err_and c.from-residual.result c.from-residual.ensures.1 in
+pub returns-in_err-kind : goal.returns-in_err-kind
+returns-in_err-kind c =
+    let place = err_from_is_err_and c.from_residual.result c.from_residual.ensures.1 in
     record {
-      said = heard_by _ _ (λ i. omega (arith, c.type-inv.bytes i)) (ap heard place.1 ∙ ap garbled place.2 ∙ sym (ap narrow c.in-err-kind.ensures));
+      said = heard_by _ _ (λ i. omega (arith, c.type_inv.bytes i)) (ap heard place.1 ∙ ap garbled place.2 ∙ sym (ap narrow c.in_err-kind.ensures));
       unique = one_call;
       enough = narrow_enough;
     }

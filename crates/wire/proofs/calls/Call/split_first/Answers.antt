@@ -8,7 +8,7 @@ use Rattle.wire.proofs.calls.Call.split_first.Goals as goal
 pub returns : goal.returns
 returns c =
     let bs = c.args.calls.now in
-    let n = c.end-of-first-end.result in
-    let all = c.end-of-first-end.ensures.value in
+    let n = c.end_of_first-end.result in
+    let all = c.end_of_first-end.ensures.value in
     let width : n - 0 ≡ first_extent bs = omega (arith, all) in
     split_by bs _ _ (subst (λ (k : ℕ). Heard (take k bs) (heard c.decode.result)) width c.decode.ensures.said) (take_rest bs n ∙ ap (λ (k : ℕ). drop k bs) all)
