@@ -1,6 +1,6 @@
 -- A row of claims in a part of lent memory, and what is done to it. Places are those of words in the memory. Assumes
 -- nothing.
-use Rattle.std.specs.Prelude.{◌≡◌, ℕ, ◌+◌, ◌-◌, ◌<◌, ◌≤◌, ◌⊎◌, List, length, take, drop, Some, None, Option, slice_index, slice_index_or}
+use Rattle.std.specs.Prelude.{◌≡◌, ℕ, ◌+◌, ◌-◌, ◌<◌, ◌≤◌, ◌⊎◌, List, length, take, drop, Some, None, Option, slice_index}
 use Rattle.register.specs.declared.row.Moved.{Moved}
 
 -- the n words from low on
@@ -19,7 +19,7 @@ pub record Fits (low high c : ℕ) (ws : List ℕ) (at : ℕ) : Type 0 where
 pub record Stands (low high c : ℕ) (ws : List ℕ) (at : ℕ) : Type 0 where
   pub fits : Fits low high c ws at
   pub within : at < high
-  pub here : slice_index_or ws at 0 ≡ c
+  pub here : slice_index ws at ≡ c
 
 -- It does not stand where it fits.
 pub record Missing (low high c : ℕ) (ws : List ℕ) : Type 0 where
@@ -37,13 +37,13 @@ Found low high c ws (Some at) = Stands low high c ws at
 pub record Goes (low high from c : ℕ) (ws : List ℕ) (to : ℕ) : Type 0 where
   pub above : low ≤ to
   pub within : to < high
-  pub more : slice_index_or ws from 0 < c → Fits (from + 1) high c ws (to + 1)
+  pub more : slice_index ws from < c → Fits (from + 1) high c ws (to + 1)
   pub less : c ≤ slice_index ws from → Fits low from c ws to
 
 -- What stood at one place is out, and c is in at another; what lay between has moved by one, and nothing else is changed.
 pub record Carried (from to c : ℕ) (ws new : List ℕ) : Type 0 where
   pub long : length new ≡ length ws
-  pub here : slice_index_or new to 0 ≡ c
+  pub here : slice_index new to ≡ c
   pub below : (k : ℕ) → k < to → k < from → slice_index new k ≡ slice_index ws k
   pub above : (k : ℕ) → to < k → from < k → slice_index new k ≡ slice_index ws k
   pub down : (k : ℕ) → from ≤ k → k < to → slice_index new k ≡ slice_index ws (k + 1)

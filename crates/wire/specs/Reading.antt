@@ -1,5 +1,5 @@
 -- What a row of bytes is as a call, and where it ceases to be one. Assumes nothing.
-use Rattle.std.specs.Prelude.{◌≡◌, ℕ, suc, ◌<◌, ◌≤◌, min, cond, ◌||◌, List, ◌++◌, length, take, drop, ◌==◌, ◌≢◌, nat_lt, slice_index, slice_index_or}
+use Rattle.std.specs.Prelude.{◌≡◌, ℕ, suc, ◌<◌, ◌≤◌, min, cond, ◌||◌, List, ◌++◌, length, take, drop, ◌==◌, ◌≢◌, nat_lt, slice_index}
 use Rattle.estate.specs.Calls.{Call, claims, proves, comes, shares, cents, garbled}
 use Rattle.wire.specs.Bytes.{number_at}
 use Rattle.wire.specs.Calls.{call_row, Sendable, extent, narrow}
@@ -20,7 +20,7 @@ read bs = read_as (slice_index bs 0) bs
 
 -- these bytes are those of a call of kind k
 pub record Whole (k : ℕ) (bs : List ℕ) : Type 0 where
-  pub first : slice_index_or bs 0 0 ≡ k
+  pub first : slice_index bs 0 ≡ k
   pub known : k ≤ 4
   pub long : length bs ≡ extent k
 
