@@ -6,7 +6,8 @@ usage: python3 tools/respell.py      once, at the top of the repository
 Types, records and statements are in camel case, everything else is in snake case. A dash stays where a lemma is named by the
 left side of its equation, as `length-sorted` by `length (sorted cs)`. Names that the toolchain makes stand in the folders of
 proofs of single functions, and are left alone, as are names that are imported from its library. It also turns names in
-backticks in README.md and docs/. It stops where two names would fall together.
+backticks in README.md and docs/. It stops where two names would fall together, and in files that it has turned before, since a
+second run would take the dashes that it left for those of an older spelling.
 """
 
 import os
@@ -94,12 +95,15 @@ def spelled(name):
 
 def table():
     outside, own, every = set(), set(), set()
+    ours = set(LEFT_SIDES.values()) - set(LEFT_SIDES)
     for path in texts():
         for line in read(path).split("\n"):
             code = split(path, line)[0]
             for m in OUTSIDE.finditer(code):
                 outside |= {n.strip().split(" as ")[-1].strip() for n in m.group(1).split(",")}
             if own_place(path):
+                if ours & set(TOKEN.findall(code)):
+                    sys.exit(f"{path} has been turned before: nothing to do")
                 every |= set(TOKEN.findall(re.sub(r"\bmod \w+|\bRattle(?:\.\w+)+", " ", code)))
                 own |= {n for n in TOKEN.findall(code) if "-" in n or n in LEFT_SIDES}
             elif path.endswith(".rt") and code.startswith("ghost use"):

@@ -4,9 +4,10 @@ use std::test::Fail;
 
 const MOST: u64 = 18446744073709551615;
 
-// What is there and the claims; what is levelled, what is spread among how many, and the parts of a cent: the three tables,
-// one cent below and above one half, and the tables of what is lost; equal claims below, at and above one half; claims of
-// zero; one creditor; all covered, exactly and with more; nothing there; no creditors; claims that no word holds together.
+// What is there and the claims; what is levelled, what is spread among how many, and the parts of a cent: claims of 100, 200
+// and 300 with 100, 200 and 300 there, one cent below and above one half, and with 200 and 100 lost; equal claims below, at
+// and above one half; claims of zero; one creditor; all covered, exactly and with more; nothing there; no creditors; claims
+// that no word holds together.
 const TERMS: [(u64, &[u64], Side, u64, u64, u64); 22] = [
     (100, &[100, 200, 300], Side::Gains, 200, 3, 6),
     (200, &[100, 200, 300], Side::Gains, 300, 2, 4),
