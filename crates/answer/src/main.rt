@@ -1,39 +1,43 @@
 // Answers a file of calls, or standard input, a line for each call. So far it answers what needs no estate.
 #![tactic(auto)]
 
-ghost use Rattle.std.specs.Prelude.{◌≡◌, true, false, MatchOption, nat_le};
+ghost use Rattle.std.specs.Prelude.{◌≡◌, ◌<◌, ◌≤◌, OnOk, IfErr};
 ghost use Rattle.estate.specs.Limits.{most_cents};
 ghost use Rattle.wire.specs.Meaning.{heard};
 ghost use Rattle.wire.specs.declared.refusals.Refusal.TheVariants.{TooLarge};
-ghost use Rattle.answer.specs.Early.{Early};
+ghost use Rattle.answer.specs.Checked.{Checked};
 
 use estate::cents_allowed;
 use std::io::Read;
 use std::{env, fs, io};
-use wire::{Call, Place, Refusal};
+use wire::{Call, Garbled, Place, Refusal, TurnedAway};
 
-// The refusal and the place that a call gets whatever the estate is, if it does.
-fn early_refusal(call: Result<Call, Place>) -> Option<(Refusal, Place)>
-    ensures { Early (heard call) result }
+// Turns a call away that is refused whatever the estate is, and hands on any other.
+fn checked(call: Result<Call, Garbled>) -> Result<Call, TurnedAway>
+    ensures { Checked (heard call) result }
 {
+    let call = call?;
     match call {
-        Err(place) => Some((Refusal::Unreadable, place)),
-        Ok(Call::Claim(cents)) => too_large(cents, 0),
-        Ok(Call::Prove(_, cents)) => too_large(cents, 1),
-        Ok(Call::Come(cents)) => too_large(cents, 0),
-        Ok(Call::Shares) => None,
-        Ok(Call::Cents) => None,
+        Call::Claim(cents) => few_enough(cents, 0)?,
+        Call::Prove(_, cents) => few_enough(cents, 1)?,
+        Call::Come(cents) => few_enough(cents, 0)?,
+        Call::Shares | Call::Cents => (),
     }
+    Ok(call)
 }
 
-// The refusal of too large a number, at a place.
-fn too_large(cents: u64, place: Place) -> Option<(Refusal, Place)>
-    ensures { MatchOption result (nat_le cents most_cents ≡ true) (λ x. (nat_le cents most_cents ≡ false) × (x ≡ (TooLarge, place))) }
+// Refuses too large a number, at a place.
+fn few_enough(cents: u64, place: Place) -> Result<(), TurnedAway>
+    ensures ok { OnOk result (cents ≤ most_cents) }
+    ensures err { IfErr result (λ t. (most_cents < cents) × (t.why ≡ TooLarge) × (t.place ≡ place)) }
 {
     if cents_allowed(cents) {
-        None
+        Ok(())
     } else {
-        Some((Refusal::TooLarge, place))
+        Err(TurnedAway {
+            why: Refusal::TooLarge,
+            place,
+        })
     }
 }
 
@@ -52,11 +56,9 @@ fn run(rt: &HostRuntime) -> anyhow::Result<()> {
     let mut rest = calls.as_slice();
     while !rest.is_empty() {
         let (call, behind) = Call::split_first(rest);
-        if let Some((refusal, place)) = early_refusal(call) {
-            let number = refusal.number();
-            println!(rt; "refused {number} at {place}")?;
-        } else {
-            println!(rt; "not answered yet: a later version divides")?;
+        match checked(call) {
+            Ok(_) => println!(rt; "not answered yet: a later version divides")?,
+            Err(refused) => println!(rt; "{refused}")?,
         }
         rest = behind;
     }

@@ -3,11 +3,12 @@ use Rattle.std.proofs.Common.{◌≡◌, ℕ, zero, suc, ◌+◌, ◌-◌, ◌*�
 use Rattle.std.specs.List.{flat_map, between}
 use Rattle.std.proofs.lemmas.List.{drop_more, take_rest}
 use Rattle.estate.specs.Answers.{Answer, refused, number, parts, amounts}
-use Rattle.wire.specs.declared.refusals.Refusal.{Refusal}
-use Rattle.wire.specs.declared.refusals.Refusal.TheVariants.{Unreadable, TooLarge, NotLent, NotThere, NoRoom}
+use Rattle.wire.specs.declared.answers.Answer as answers
+use Rattle.wire.specs.declared.answers.DecodeError.{DecodeError}
+use Rattle.wire.specs.declared.answers.DecodeError.TheVariants.{NoAnswer, OutOfMemory}
 use Rattle.wire.specs.Bytes.{Bytes, Fitting, eight, numbers, row}
 use Rattle.wire.specs.Answers.{kind, fields, Shaped, Received}
-use Rattle.wire.specs.Meaning.{refusal_number}
+use Rattle.wire.specs.Meaning.{told, IsDecoded, IsShaped}
 use Rattle.wire.specs.Laws.{OneAnswer, AnswerBack}
 use Rattle.wire.proofs.Bytes.{length-flat_map, numbers-flat_map, flat_map-numbers, fitting_numbers}
 use Rattle.wire.proofs.Parts.{length-row}
@@ -46,9 +47,19 @@ one_answer a b ha hb same =
     let ns = sym (row_numbers (kind a) (fields a) (flat_map eight (fields b)) ha.fitting (kind b) same) ∙ row_numbers (kind b) (fields b) (flat_map eight (fields b)) hb.fitting (kind b) refl in
     sym (answer_of_is a) ∙ (λ i. answer_of (k i) (ns i)) ∙ answer_of_is b
 
--- bytes that are no whole row
+-- bytes that are no whole row, and bytes of an unknown kind
 pub received_none : (bs : List ℕ) → (length bs % 8 ≡ 1 → ⊥) → Received bs None
 received_none bs h a s e = h (omega (arith, ap length e, length-row (kind a) (fields a)))
+
+few_kinds : (a : Answer) → kind a ≤ 3
+few_kinds (refused n p) = omega arith
+few_kinds (number n) = omega arith
+few_kinds (parts d xs) = omega arith
+few_kinds (amounts xs) = omega arith
+
+pub received_unknown : (bs : List ℕ) → 3 < get_or bs 0 0 → Received bs None
+unfolding row
+received_unknown bs h a s e = omega (arith, few_kinds a, ap (λ (l : List ℕ). get_or l 0 0) e)
 
 module _ (k : ℕ) (rest : List ℕ) (whole : length rest % 8 ≡ 0) (h : Bytes rest) where
   received_by : (o : Option Answer) → Shaped k (numbers (length rest / 8) rest) o → Received (k ∷ rest) o
@@ -68,44 +79,11 @@ received_at (b ∷ rest) ns whole h e o g =
     let same : ns ≡ numbers (length rest / 8) rest = rw (take_rest (b ∷ rest) 1) at e in
     received_by b rest (omega arith) (λ i. h (suc i)) o (subst (λ (l : List ℕ). Shaped b l o) same g)
 
-pub received_made : {X Y : Type 0} (f : X → Option Answer) (r : Result X Y) (bs ns : List ℕ) → length bs % 8 ≡ 1 → Bytes bs → ns ≡ numbers (length (between 1 (length bs) bs) / 8) (between 1 (length bs) bs) → IfOk r (λ x. Shaped (get_or bs 0 0) ns (f x)) → IfOk r (λ x. Received bs (f x))
-received_made f (Ok x) bs ns whole h e g = received_at bs ns whole h e (f x) g
-received_made f (Err y) bs ns whole h e g = tt
+pub decoded : {L : Type 0} (items : L → List ℕ) (r : Result (answers.Answer L) DecodeError) (bs ns : List ℕ) → length bs % 8 ≡ 1 → Bytes bs → ns ≡ numbers (length (between 1 (length bs) bs) / 8) (between 1 (length bs) bs) → IsShaped items (get_or bs 0 0) ns r → IsDecoded items bs r
+decoded items (Ok a) bs ns whole h e g = received_at bs ns whole h e (Some (told items a)) g
+decoded items (Err NoAnswer) bs ns whole h e g = received_at bs ns whole h e None g
+decoded items (Err OutOfMemory) bs ns whole h e g = tt
 
 pub answer_back : AnswerBack
-answer_back bs None a h s e = absurd (h a s e)
-answer_back bs (Some b) a h s e = ap Some (one_answer b a h.0 s (h.1 ∙ sym e))
-
--- a list behind its count
-module _ (ns : List ℕ) (at' : ℕ) where
-  pub behind_none : length ns ≤ at' → (xs : List ℕ) → drop at' ns ≡ length xs ∷ xs → ⊥
-  behind_none h xs e = omega (arith, ap length e, length-drop at' ns)
-
-  pub behind_other : at' < length ns → (get_or ns at' 0 ≡ length ns - at' - 1 → ⊥) → (xs : List ℕ) → drop at' ns ≡ length xs ∷ xs → ⊥
-  behind_other h g xs e =
-      let first = ap (λ (l : List ℕ). get_or l 0 0) (sym (drop_more ns at' 0 h) ∙ e) in
-      g (omega (arith, ap length e, length-drop at' ns))
-
-  pub behind_is : (v : List ℕ) → at' < length ns → get_or ns at' 0 ≡ length ns - at' - 1 → v ≡ take (length ns - (at' + 1)) (drop (at' + 1) ns) → drop at' ns ≡ length v ∷ v
-  behind_is v h g e =
-      let items : v ≡ drop (at' + 1) ns = e ∙ take_rest ns (at' + 1) in
-      let count : get_or ns at' 0 ≡ length v = omega (arith, ap length items, length-drop (at' + 1) ns) in
-      rw (drop_more ns at' 0 h, count, items)
-
-pub one_is : (ns : List ℕ) → length ns ≡ 1 → get_or ns 0 0 ∷ [] ≡ ns
-one_is (n ∷ []) h = refl
-one_is [] h = absurd (omega arith)
-one_is (n ∷ m ∷ ns) h = absurd (omega arith)
-
-pub two_are : (ns : List ℕ) → length ns ≡ 2 → get_or ns 0 0 ∷ get_or ns 1 0 ∷ [] ≡ ns
-two_are (n ∷ m ∷ []) h = refl
-two_are [] h = absurd (omega arith)
-two_are (n ∷ []) h = absurd (omega arith)
-two_are (n ∷ m ∷ p ∷ ns) h = absurd (omega arith)
-
-pub refusal_listed : (r : Refusal) → (1 ≤ refusal_number r) × (refusal_number r ≤ 5)
-refusal_listed Unreadable = (omega arith, omega arith)
-refusal_listed TooLarge = (omega arith, omega arith)
-refusal_listed NotLent = (omega arith, omega arith)
-refusal_listed NotThere = (omega arith, omega arith)
-refusal_listed NoRoom = (omega arith, omega arith)
+answer_back a None s h = absurd (h a s refl)
+answer_back a (Some b) s h = ap Some (one_answer b a h.0 s h.1)

@@ -5,35 +5,12 @@ use borrow.Rule.Slice.PartMut.{put_mid}
 use Rattle.std.specs.List.{flat_map}
 use Rattle.std.proofs.lemmas.List.{length-take-le, get_or-take, get_or-drop, get_or_past, drop_more, drop-drop, nil_from_length, take_more, take_all, take_at, drop_at, flat_map_more}
 use Rattle.std.proofs.lemmas.Bool.{cases_lt}
-use Rattle.wire.specs.Bytes.{Below, Bytes, Fitting, low_first, eight, number_at, numbers}
+use Rattle.std.proofs.lemmas.Nat.{le_bytes_8, from_le_bytes-to_le_bytes_8}
+use Rattle.wire.specs.Bytes.{Below, Bytes, Fitting, eight, number_at, numbers}
 
--- the number whose bytes these are
-unfoldable value : List ℕ → ℕ
-value [] = 0
-value (b ∷ bs) = b + 256 * value bs
-
-length-low_first : (k n : ℕ) → length (low_first k n) ≡ k
-unfolding low_first
-length-low_first zero n = refl
-length-low_first (suc k) n = ap suc (length-low_first k (n / 256))
-
-value-low_first : (k n : ℕ) → n < 256 ^ k → value (low_first k n) ≡ n
-unfolding low_first value
-value-low_first zero n h = omega arith
-value-low_first (suc k) n h = omega (arith, value-low_first k (n / 256) (omega (arith, pow-succ' 256 k)))
-
-value_lt : (bs : List ℕ) → Bytes bs → value bs < 256 ^ length bs
-unfolding value
-value_lt [] h = omega arith
-value_lt (b ∷ bs) h = omega (arith, h 0, value_lt bs (λ i. h (suc i)), pow-succ' 256 (length bs))
-
-low_first-value : (bs : List ℕ) → Bytes bs → low_first (length bs) (value bs) ≡ bs
-unfolding low_first value
-low_first-value [] h = refl
-low_first-value (b ∷ bs) h =
-    let low : (b + 256 * value bs) % 256 ≡ b = omega (arith, h 0) in
-    let high : (b + 256 * value bs) / 256 ≡ value bs = omega (arith, h 0) in
-    rw (low, high, low_first-value bs (λ i. h (suc i)))
+length-eight : (n : ℕ) → length (eight n) ≡ 8
+unfolding eight
+length-eight n = refl
 
 pub bytes_take : (n : ℕ) (bs : List ℕ) → n ≤ length bs → Bytes bs → Bytes (take n bs)
 bytes_take n bs fits h i = at_order (cases_lt i n)
@@ -60,56 +37,29 @@ bytes_zeros zero i = omega arith
 bytes_zeros (suc n) zero = omega arith
 bytes_zeros (suc n) (suc i) = bytes_zeros n i
 
--- one byte of a number that begins at i, after k others
-value_more : (n k i : ℕ) (bs : List ℕ) → i + k < length bs → value (take (suc n) (drop (i + k) bs)) ≡ get_or bs (i + k) 0 + 256 * value (take n (drop (i + suc k) bs))
-unfolding value
-value_more n k i bs lt =
-    let next : i + k + 1 ≡ i + suc k = omega arith in
-    rw (drop_more bs (i + k) 0 lt, next)
-
-number_at-value : (i : ℕ) (bs : List ℕ) → i + 8 ≤ length bs → number_at bs i ≡ value (take 8 (drop i bs))
-unfolding value
-number_at-value i bs h =
-    let first : value (take 8 (drop i bs)) ≡ get_or bs i 0 + 256 * value (take 7 (drop (i + 1) bs)) = rw (add-zero i) at (value_more 7 0 i bs (omega arith)) in
-    omega (
-      arith,
-      value_more 6 1 i bs (omega arith),
-      value_more 5 2 i bs (omega arith),
-      value_more 4 3 i bs (omega arith),
-      value_more 3 4 i bs (omega arith),
-      value_more 2 5 i bs (omega arith),
-      value_more 1 6 i bs (omega arith),
-      value_more 0 7 i bs (omega arith),
-    )
-
-pub number_at-drop : (m i : ℕ) (bs : List ℕ) → number_at (drop m bs) i ≡ number_at bs (m + i)
-number_at-drop m i bs = simp (get_or-drop, add_assoc)
-
 -- a number's bytes are read as that number
 pub number_at-eight : (n : ℕ) (rest : List ℕ) → n < 2 ^ 64 → number_at (eight n ++ rest) 0 ≡ n
-unfolding low_first
-number_at-eight n rest h = number_at-value 0 (eight n ++ rest) (omega arith) ∙ value-low_first 8 n h
+unfolding eight
+number_at-eight n rest h = from_le_bytes-to_le_bytes_8 n h
 
 module _ (bs : List ℕ) (some : 8 ≤ length bs) (h : Bytes bs) where
   -- eight bytes are those of the number that is read from them
   eight-number_at : eight (number_at bs 0) ≡ take 8 bs
-  eight-number_at =
-      let long = length-take-le 8 bs some in
-      ap eight (number_at-value 0 bs some) ∙ (rw long at (low_first-value (take 8 bs) (bytes_take 8 bs some h)))
+  unfolding eight
+  eight-number_at = le_bytes_8 (take 8 bs) _ (length-take-le 8 bs some) (bytes_take 8 bs some h) refl
 
   number_fits : number_at bs 0 < 2 ^ 64
   number_fits =
-      let long = length-take-le 8 bs some in
-      let lt : value (take 8 bs) < 2 ^ 64 = rw long at (value_lt (take 8 bs) (bytes_take 8 bs some h)) in
-      omega (arith, number_at-value 0 bs some)
+      let b = bytes_take 8 bs some h in
+      omega (arith, b 0, b 1, b 2, b 3, b 4, b 5, b 6, b 7)
 
 pub length-flat_map : (ns : List ℕ) → length (flat_map eight ns) ≡ 8 * length ns
 length-flat_map [] = refl
 length-flat_map (n ∷ ns) =
-    omega (arith, length-append (eight n) (flat_map eight ns), length-low_first 8 n, length-flat_map ns)
+    omega (arith, length-append (eight n) (flat_map eight ns), length-eight n, length-flat_map ns)
 
 pub numbers-flat_map : (ns : List ℕ) → Fitting ns → numbers (length ns) (flat_map eight ns) ≡ ns
-unfolding numbers low_first
+unfolding numbers eight
 numbers-flat_map [] h = refl
 numbers-flat_map (n ∷ ns) h =
     let first = number_at-eight n (flat_map eight ns) (h 0) in
@@ -131,21 +81,15 @@ fitting_numbers (suc n) bs long h zero = number_fits bs (omega arith) h
 fitting_numbers (suc n) bs long h (suc i) =
     fitting_numbers n (drop 8 bs) (omega (arith, length-drop 8 bs)) (bytes_drop 8 bs h) i
 
--- what `to_le_bytes` says of n
-pub eight_is : (n : ℕ) → (n % 256) ∷ (n / 256 % 256) ∷ (n / 65536 % 256) ∷ (n / 16777216 % 256) ∷ (n / 4294967296 % 256) ∷ (n / 1099511627776 % 256) ∷ (n / 281474976710656 % 256) ∷ (n / 72057594037927936 % 256) ∷ [] ≡ eight n
-unfolding low_first
-eight_is n = simp div-div-eq-div-mul
+-- the first number is taken off, and what is less than a number is none
+module _ (bs : List ℕ) where
+  pub numbers_more : 8 ≤ length bs → numbers (length bs / 8) bs ≡ number_at bs 0 ∷ numbers (length (drop 8 bs) / 8) (drop 8 bs)
+  unfolding numbers
+  numbers_more h = let next : length bs / 8 ≡ suc (length (drop 8 bs) / 8) = omega (arith, length-drop 8 bs) in rw next
 
--- one number more is read
-pub numbers_more : (n : ℕ) (bs : List ℕ) → numbers (n + 1) bs ≡ numbers n bs ++ number_at bs (8 * n) ∷ []
-unfolding numbers
-numbers_more zero bs = refl
-numbers_more (suc n) bs =
-    let next : 8 + 8 * n ≡ 8 * suc n = omega arith in
-    let one : suc n + 1 ≡ suc (n + 1) = omega arith in
-    let last : number_at (drop 8 bs) (8 * n) ≡ number_at bs (8 * suc n) = number_at-drop 8 (8 * n) bs ∙ ap (number_at bs) next in
-    let rest = numbers_more n (drop 8 bs) in
-    ap (λ (k : ℕ). numbers k bs) one ∙ ap (λ (l : List ℕ). number_at bs 0 ∷ l) (rest ∙ ap (λ (x : ℕ). numbers n (drop 8 bs) ++ x ∷ []) last)
+  pub numbers_none : length bs < 8 → numbers (length bs / 8) bs ≡ []
+  unfolding numbers
+  numbers_none h = let none : length bs / 8 ≡ 0 = omega arith in rw none
 
 -- one number more is written
 pub put_more : (ns : List ℕ) (i : ℕ) (before part bytes : List ℕ) → i < length ns → 8 * length ns ≤ length before → part ≡ flat_map eight (take i ns) ++ drop (8 * i) before → bytes ≡ eight (get_or ns i 0) → put_mid (8 * i) (8 * i + 8 - 8 * i) part bytes ≡ flat_map eight (take (i + 1) ns) ++ drop (8 * (i + 1)) before

@@ -2,11 +2,11 @@
 use Rattle.std.proofs.Common.{◌≡◌, ℕ, zero, suc, ◌*◌, ◌<◌, ◌≤◌, List, [], ◌∷◌, length, get_or, sym, refl, ap, ◌∙◌, subst, arith}
 use Rattle.std.proofs.lemmas.Bool.Decides.{nat_tests}
 use Rattle.estate.specs.Calls.{Call, claims, proves, comes, shares, cents, garbled}
-use Rattle.wire.specs.Bytes.{Bytes, Fitting, low_first, eight, number_at, numbers, row}
+use Rattle.wire.specs.Bytes.{Bytes, Fitting, eight, number_at, numbers, row}
 use Rattle.wire.specs.Calls.{kind, fields, call_row, Sendable, extent}
 use Rattle.wire.specs.Reading.{call_at, read, Whole}
 use Rattle.wire.specs.Laws.{OneCall}
-use Rattle.wire.proofs.Bytes.{number_at-drop, number_at-eight, flat_map-numbers, fitting_numbers}
+use Rattle.wire.proofs.Bytes.{number_at-eight, flat_map-numbers, fitting_numbers}
 
 pub read_none : (bs : List ℕ) → length bs ≡ 0 → read bs ≡ garbled 0
 read_none bs h = grind (arith, nat_tests)
@@ -29,7 +29,7 @@ pub extent_some : (k : ℕ) → 0 < extent k
 extent_some k = grind (arith, nat_tests)
 
 pub length-call_row : (c : Call) → length (call_row c) ≡ extent (kind c)
-unfolding row low_first
+unfolding row eight
 length-call_row (claims c) = refl
 length-call_row (proves i c) = refl
 length-call_row (comes x) = refl
@@ -39,7 +39,7 @@ length-call_row (garbled n) = refl
 
 -- the call that was written is the one that is read
 pub read_row : (c : Call) → Sendable c → read (call_row c) ≡ c
-unfolding row low_first
+unfolding row eight
 read_row (claims c) h = ap claims (number_at-eight c [] (h.fitting 0))
 read_row (proves i c) h =
     let first = number_at-eight i (eight c) (h.fitting 0) in
@@ -65,8 +65,7 @@ module _ (k n b : ℕ) (bs : List ℕ) (same : b ≡ k) (known : k < 5) (long : 
 row_at : (k b : ℕ) (bs : List ℕ) → b ≡ k → k ≤ 4 → suc (length bs) ≡ extent k → Bytes bs → Sendable (call_at k (b ∷ bs)) × (call_row (call_at k (b ∷ bs)) ≡ b ∷ bs)
 unfolding numbers
 row_at zero b bs same known long h = row_of 0 1 b bs same (omega arith) (omega arith) h _ refl refl
-row_at (suc zero) b bs same known long h =
-    row_of 1 2 b bs same (omega arith) (omega arith) h _ refl (ap (λ (n : ℕ). number_at bs 0 ∷ n ∷ []) (sym (number_at-drop 8 0 bs)))
+row_at (suc zero) b bs same known long h = row_of 1 2 b bs same (omega arith) (omega arith) h _ refl refl
 row_at (suc (suc zero)) b bs same known long h = row_of 2 1 b bs same (omega arith) (omega arith) h _ refl refl
 row_at (suc (suc (suc zero))) b bs same known long h =
     row_of 3 0 b bs same (omega arith) (omega arith) h _ refl refl

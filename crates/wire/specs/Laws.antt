@@ -18,10 +18,10 @@ abbrev pub OneAnswer : Type 0
 OneAnswer =
     (a b : Answer) → answers.Sendable a → answers.Sendable b → answers.answer_row a ≡ answers.answer_row b → a ≡ b
 
--- an answer that was written is the one that is read
+-- what is read of an answer's bytes is that answer
 abbrev pub AnswerBack : Type 0
 AnswerBack =
-    (bs : List ℕ) (o : Option Answer) (a : Answer) → answers.Received bs o → answers.Sendable a → answers.answer_row a ≡ bs → o ≡ Some a
+    (a : Answer) (o : Option Answer) → answers.Sendable a → answers.Received (answers.answer_row a) o → o ≡ Some a
 
 -- no estate of fewer than 2^32 claims shows whether a place was narrowed to 32 bits: neither place has a claim, or they are one
 abbrev pub NarrowEnough : Type 0

@@ -1,4 +1,5 @@
 pub mod Bytes
+pub mod Kinds
 pub mod Calls
 pub mod Reading
 pub mod Answers

@@ -1,15 +1,18 @@
 // Calls as rows of bytes.
-ghost use Rattle.std.specs.Prelude.{◌≡◌, ◌+◌, ◌<◌, ◌≤◌, min, length, MatchOption, MatchResult};
+ghost use Rattle.std.specs.Prelude.{◌≡◌, ◌+◌, ◌≤◌, min, length, MatchResult};
 ghost use Rattle.estate.specs.Calls.{garbled};
 ghost use Rattle.wire.specs.Bytes.{number_at};
-ghost use Rattle.wire.specs.Calls.{call_row, Sendable, narrow, extent as extent_of};
+ghost use Rattle.wire.specs.Calls.{call_row, Sendable, narrow};
+ghost use Rattle.wire.specs.Kinds.{asked_by};
 ghost use Rattle.wire.specs.Reading.{read, Whole, Heard, first_extent, Split};
 ghost use Rattle.wire.specs.Laws.{OneCall, NarrowEnough};
 ghost use Rattle.wire.specs.Meaning.{meaning, heard};
 ghost use Rattle.wire.specs.Written.{Written};
 
-use crate::refusals::{Place, Refusal};
+use crate::kinds::CallKind;
+use crate::refusals::{Garbled, Place, Refusal};
 use crate::rows::{number_at, put};
+use std::cmp::Ordering;
 
 #[derive(Clone, Copy, Debug, PartialEq, Eq)]
 pub enum Call {
@@ -32,17 +35,20 @@ impl Call {
         ensures sendable { Sendable (meaning self) × (narrow (meaning self) ≡ meaning self) }
     {
         match self {
-            Call::Claim(cents) => put(out, 0, &[cents], &[]),
-            Call::Prove(place, cents) => put(out, 1, &[u64::from(place), cents], &[]),
-            Call::Come(cents) => put(out, 2, &[cents], &[]),
-            Call::Shares => put(out, 3, &[], &[]),
-            Call::Cents => put(out, 4, &[], &[]),
+            Call::Claim(cents) => put(out, CallKind::Claim as u8, &[cents], &[]),
+            Call::Prove(place, cents) => {
+                put(out, CallKind::Prove as u8, &[u64::from(place), cents], &[])
+            }
+            Call::Come(cents) => put(out, CallKind::Come as u8, &[cents], &[]),
+            Call::Shares => put(out, CallKind::Shares as u8, &[], &[]),
+            Call::Cents => put(out, CallKind::Cents as u8, &[], &[]),
         }
     }
 
     // The call that these bytes are, or the place of the first byte that does not fit. A place of 2^32 or more is held as
     // the last of 32 bits, which no desk has either.
-    pub fn decode(bytes: &[u8]) -> Result<Call, Place>
+    #[tactic(auto, using(crate::proofs::CallRows::one_call, crate::proofs::Misfits::heard_by))]
+    pub fn decode(bytes: &[u8]) -> Result<Call, Garbled>
         ensures said { Heard bytes.now (heard result) }
         ensures unique { OneCall }
         ensures enough { NarrowEnough }
@@ -52,23 +58,11 @@ impl Call {
     }
 
     // The first of a row of calls with nothing between them, and the bytes behind it. Where it cannot be read none are left.
-    pub fn split_first(calls: &[u8]) -> (Result<Call, Place>, &[u8])
+    pub fn split_first(calls: &[u8]) -> (Result<Call, Garbled>, &[u8])
         ensures { Split calls.now (heard result.0) result.1.now }
     {
-        let end = end_of_first(calls);
-        (Call::decode(&calls[0..end]), &calls[end..])
-    }
-}
-
-// How many bytes a call of this kind has.
-fn extent(kind: u8) -> Option<usize>
-    ensures { MatchOption result (4 < kind) (λ n. (kind ≤ 4) × (n ≡ extent_of kind)) }
-{
-    match kind {
-        0 | 2 => Some(9),
-        1 => Some(17),
-        3 | 4 => Some(1),
-        _ => None,
+        let (first, rest) = calls.split_at(end_of_first(calls));
+        (Call::decode(first), rest)
     }
 }
 
@@ -77,33 +71,30 @@ fn end_of_first(calls: &[u8]) -> usize
     ensures value { result ≡ first_extent calls.now }
     ensures within { result ≤ length calls.now }
 {
-    if calls.is_empty() {
+    let Some(first) = calls.first() else {
         return 0;
-    }
-    match extent(calls[0]) {
-        Some(extent) => extent.min(calls.len()),
-        None => calls.len(),
+    };
+    match CallKind::try_from(*first) {
+        Ok(kind) => kind.extent().min(calls.len()),
+        Err(_) => calls.len(),
     }
 }
 
 // The kind of the call that these bytes are, or the place of the first byte that does not fit.
-fn kind_of(bytes: &[u8]) -> Result<u8, Place>
-    ensures { MatchResult result (λ k. Whole k bytes.now) (λ p. read bytes.now ≡ garbled p) }
+fn kind_of(bytes: &[u8]) -> Result<CallKind, Garbled>
+    ensures { MatchResult result (λ k. Whole (asked_by k) bytes.now) (λ e. read bytes.now ≡ garbled e.0) }
 {
-    if bytes.is_empty() {
-        return Err(0);
-    }
-    let kind = bytes[0];
-    let Some(extent) = extent(kind) else {
-        return Err(0);
+    let Some(first) = bytes.first() else {
+        return Err(Garbled(0));
     };
-    if bytes.len() < extent {
-        return Err(bytes.len() as u32);
+    let Ok(kind) = CallKind::try_from(*first) else {
+        return Err(Garbled(0));
+    };
+    match bytes.len().cmp(&kind.extent()) {
+        Ordering::Less => Err(Garbled(bytes.len() as Place)),
+        Ordering::Equal => Ok(kind),
+        Ordering::Greater => Err(Garbled(kind.extent() as Place)),
     }
-    if bytes.len() > extent {
-        return Err(extent as u32);
-    }
-    Ok(kind)
 }
 
 // The place that stands in a row of bytes. Every place of 2^32 and more is the last of 32 bits: no claim is at either.
@@ -111,19 +102,19 @@ fn place_at(bytes: &[u8], at: usize) -> Place
     requires { at + 8 ≤ length bytes.now }
     ensures { result ≡ min (number_at bytes.now at) 4294967295 }
 {
-    u32::try_from(number_at(bytes, at)).unwrap_or(u32::MAX)
+    Place::try_from(number_at(bytes, at)).unwrap_or(Place::MAX)
 }
 
 // The call that these bytes are, which are those of a call of this kind.
-fn call_at(kind: u8, bytes: &[u8]) -> Call
-    requires { Whole kind bytes.now }
+fn call_at(kind: CallKind, bytes: &[u8]) -> Call
+    requires { Whole (asked_by kind) bytes.now }
     ensures { meaning result ≡ narrow (read bytes.now) }
 {
     match kind {
-        0 => Call::Claim(number_at(bytes, 1)),
-        1 => Call::Prove(place_at(bytes, 1), number_at(bytes, 9)),
-        2 => Call::Come(number_at(bytes, 1)),
-        3 => Call::Shares,
-        _ => Call::Cents,
+        CallKind::Claim => Call::Claim(number_at(bytes, 1)),
+        CallKind::Prove => Call::Prove(place_at(bytes, 1), number_at(bytes, 9)),
+        CallKind::Come => Call::Come(number_at(bytes, 1)),
+        CallKind::Shares => Call::Shares,
+        CallKind::Cents => Call::Cents,
     }
 }

@@ -3,9 +3,10 @@
 
 mod answers;
 mod calls;
+mod kinds;
 mod refusals;
 mod rows;
 
-pub use answers::{Answer, encode_amounts, encode_number, encode_parts, encode_refused};
+pub use answers::{Answer, DecodeError, Numbers};
 pub use calls::Call;
-pub use refusals::{Place, Refusal};
+pub use refusals::{Garbled, Place, Refusal, TurnedAway, UnknownRefusal};

@@ -1,6 +1,10 @@
 // Why a call is turned away, and where.
-ghost use Rattle.std.specs.Prelude.{◌≡◌, ◌<◌, ◌⊎◌, MatchOption};
-ghost use Rattle.wire.specs.Meaning.{refusal_number};
+ghost use Rattle.std.specs.Prelude.{◌≡◌, Some, ◌++◌, decimal, codes};
+ghost use Rattle.wire.specs.Meaning.{refusal_number, IsRefusal};
+ghost use Rattle.wire.specs.declared.refusals.Refusal.TheVariants.{Unreadable};
+
+use std::error::Error;
+use std::fmt;
 
 // The place of a claim, or the place in a call at which it is refused, counted from 0.
 pub type Place = u32;
@@ -19,25 +23,85 @@ pub enum Refusal {
     NoRoom = 5,
 }
 
-impl Refusal {
-    // The number that stands for the refusal in an answer.
-    pub fn number(self) -> u64
-        ensures { result ≡ refusal_number self }
-    {
-        self as u64
-    }
+// The number that stands for a refusal in an answer.
+impl From<Refusal> for u64 {
+    ghost from_gives = { λ refusal n. n ≡ refusal_number refusal };
 
-    // The refusal of a number.
-    pub fn numbered(n: u64) -> Option<Refusal>
-        ensures { MatchOption result ((n < 1) ⊎ (5 < n)) (λ k. refusal_number k ≡ n) }
-    {
+    fn from(refusal: Refusal) -> u64 {
+        refusal as u64
+    }
+}
+
+// A number that stands for no refusal.
+#[derive(Clone, Copy, Debug, PartialEq, Eq)]
+pub struct UnknownRefusal(pub u64);
+
+impl TryFrom<u64> for Refusal {
+    type Error = UnknownRefusal;
+
+    ghost try_from_gives = { IsRefusal };
+
+    fn try_from(n: u64) -> Result<Self, UnknownRefusal> {
         match n {
-            1 => Some(Refusal::Unreadable),
-            2 => Some(Refusal::TooLarge),
-            3 => Some(Refusal::NotLent),
-            4 => Some(Refusal::NotThere),
-            5 => Some(Refusal::NoRoom),
-            _ => None,
+            1 => Ok(Refusal::Unreadable),
+            2 => Ok(Refusal::TooLarge),
+            3 => Ok(Refusal::NotLent),
+            4 => Ok(Refusal::NotThere),
+            5 => Ok(Refusal::NoRoom),
+            _ => Err(UnknownRefusal(n)),
+        }
+    }
+}
+
+impl fmt::Display for UnknownRefusal {
+    ghost output = { λ e. Some (codes "no refusal has number " ++ decimal e.0) };
+
+    fn fmt<W: fmt::Write>(&self, f: &mut fmt::Formatter<W>) -> fmt::Result {
+        write!(f, "no refusal has number {}", self.0)
+    }
+}
+
+impl Error for UnknownRefusal {}
+
+// Bytes that are no call, and the place of the first that does not fit.
+#[derive(Clone, Copy, Debug, PartialEq, Eq)]
+pub struct Garbled(pub Place);
+
+impl fmt::Display for Garbled {
+    ghost output = { λ e. Some (codes "no call, from byte " ++ decimal e.0 ++ codes " on") };
+
+    fn fmt<W: fmt::Write>(&self, f: &mut fmt::Formatter<W>) -> fmt::Result {
+        write!(f, "no call, from byte {} on", self.0)
+    }
+}
+
+impl Error for Garbled {}
+
+// A call is turned away: why, and at which place.
+#[derive(Clone, Copy, Debug, PartialEq, Eq)]
+pub struct TurnedAway {
+    pub why: Refusal,
+    pub place: Place,
+}
+
+impl fmt::Display for TurnedAway {
+    ghost output = { λ t. Some (codes "refused " ++ decimal (refusal_number t.why) ++ codes " at " ++ decimal t.place) };
+
+    fn fmt<W: fmt::Write>(&self, f: &mut fmt::Formatter<W>) -> fmt::Result {
+        write!(f, "refused {} at {}", u64::from(self.why), self.place)
+    }
+}
+
+impl Error for TurnedAway {}
+
+// What cannot be read is turned away where it ceases to be a call.
+impl From<Garbled> for TurnedAway {
+    ghost from_gives = { λ bytes t. (t.why ≡ Unreadable) × (t.place ≡ bytes.0) };
+
+    fn from(bytes: Garbled) -> TurnedAway {
+        TurnedAway {
+            why: Refusal::Unreadable,
+            place: bytes.0,
         }
     }
 }

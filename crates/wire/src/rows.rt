@@ -12,16 +12,7 @@ pub(crate) fn number_at(bytes: &[u8], at: usize) -> u64
     requires { at + 8 ≤ length bytes.now }
     ensures { result ≡ number_at bytes.now at }
 {
-    u64::from_le_bytes([
-        bytes[at],
-        bytes[at + 1],
-        bytes[at + 2],
-        bytes[at + 3],
-        bytes[at + 4],
-        bytes[at + 5],
-        bytes[at + 6],
-        bytes[at + 7],
-    ])
+    u64::from_le_bytes(*bytes[at..].first_chunk().unwrap())
 }
 
 // Writes numbers at the start of a part that has room for them.
@@ -55,8 +46,10 @@ pub(crate) fn numbers_in(heap: Global, bytes: &[u8]) -> Result<Vec<u64>, AllocEr
     ensures { IfOk result (λ v. v.items ≡ numbers (length bytes.now / 8) bytes.now) }
 {
     let mut list = Vec::new(heap);
-    for i in 0..bytes.len() / 8 {
-        list.push(number_at(bytes, 8 * i))?;
+    let mut rest = bytes;
+    while let Some((eight, others)) = rest.split_first_chunk() {
+        list.push(u64::from_le_bytes(*eight))?;
+        rest = others;
     }
     Ok(list)
 }

@@ -2,7 +2,7 @@
 use std::alloc::Global;
 use std::process::Abort;
 use std::test::Fail;
-use wire::{Answer, Refusal, encode_parts};
+use wire::{Answer, DecodeError, Refusal, TurnedAway};
 
 const REFUSED: &[u8] = b"\x00\x05\0\0\0\0\0\0\0\x01\0\0\0\0\0\0\0";
 
@@ -16,21 +16,30 @@ const CENTS: &[u8] = b"\x03\x01\0\0\0\0\0\0\0\x22\0\0\0\0\0\0\0";
 const NO_CENTS: &[u8] = b"\x03\0\0\0\0\0\0\0\0";
 
 // The row is read as the answer, and the answer is written as the row; what lies behind stays.
-fn there_and_back(rt: &impl Abort, heap: Global, answer: Answer, row: &[u8]) -> Result<(), Fail> {
+fn there_and_back(
+    rt: &impl Abort,
+    heap: Global,
+    answer: Answer<Vec<u64>>,
+    row: &[u8],
+) -> Result<(), Fail> {
     let len = row.len();
     assert!(rt; len <= 40);
     let mut out = [170u8; 40];
     assert_eq!(rt; answer.encode(&mut out), Ok(len));
     assert!(rt; &out[0..len] == row);
     assert!(rt; out[len..40] == [170u8; 40][len..40]);
-    assert_eq!(rt; Answer::decode(heap, row)?, Some(answer));
+    assert_eq!(rt; Answer::decode(heap, row), Ok(answer));
     Ok(())
 }
 
 #[test]
 fn answers_and_their_rows(rt: HostRuntime) -> Result<(), Fail> {
     let heap = rt.alloc();
-    there_and_back(&rt, heap, Answer::Refused(Refusal::NoRoom, 1), REFUSED)?;
+    let refused = TurnedAway {
+        why: Refusal::NoRoom,
+        place: 1,
+    };
+    there_and_back(&rt, heap, Answer::Refused(refused), REFUSED)?;
     there_and_back(&rt, heap, Answer::Number(123456789), NUMBER)?;
     there_and_back(
         &rt,
@@ -46,10 +55,9 @@ fn answers_and_their_rows(rt: HostRuntime) -> Result<(), Fail> {
 #[test]
 fn too_little_lent(rt: HostRuntime) {
     let mut out = [170u8; 32];
-    assert_eq!(rt;
-        encode_parts(4, &[200, 300], &mut out),
-        Err(Refusal::NotLent)
-    );
+    let shares: &[u64] = &[200, 300];
+    let answer = Answer::Parts(4, shares);
+    assert_eq!(rt; answer.encode(&mut out), Err(Refusal::NotLent));
     assert!(rt; out == [170u8; 32]);
 }
 
@@ -66,9 +74,8 @@ const NONE: [&[u8]; 8] = [
 ];
 
 #[test]
-fn rows_that_are_no_answers(rt: HostRuntime) -> Result<(), Fail> {
+fn rows_that_are_no_answers(rt: HostRuntime) {
     for row in NONE {
-        assert!(rt; Answer::decode(rt.alloc(), row)?.is_none());
+        assert_eq!(rt; Answer::decode(rt.alloc(), row), Err(DecodeError::NoAnswer));
     }
-    Ok(())
 }

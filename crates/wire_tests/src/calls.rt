@@ -1,5 +1,5 @@
 // Calls and their rows, written out by hand.
-use wire::{Call, Refusal};
+use wire::{Call, Garbled, Refusal};
 
 // Calls, and the bytes of each.
 const GOOD: [(Call, &[u8]); 7] = [
@@ -73,7 +73,7 @@ fn rows_that_are_none(rt: HostRuntime) {
         let mut row = [0u8; 18];
         row[0] = kind;
         assert!(rt; len <= 18);
-        assert_eq!(rt; Call::decode(&row[0..len]), Err(place));
+        assert_eq!(rt; Call::decode(&row[0..len]), Err(Garbled(place)));
     }
 }
 
@@ -97,9 +97,9 @@ fn calls_one_by_one(rt: HostRuntime) {
     let (third, rest) = Call::split_first(rest);
     assert_eq!(rt; third, Ok(Call::Cents));
     let (fourth, rest) = Call::split_first(rest);
-    assert_eq!(rt; fourth, Err(2));
+    assert_eq!(rt; fourth, Err(Garbled(2)));
     assert!(rt; rest.is_empty());
     let (unknown, rest) = Call::split_first(b"\x09\x03\x03");
-    assert_eq!(rt; unknown, Err(0));
+    assert_eq!(rt; unknown, Err(Garbled(0)));
     assert!(rt; rest.is_empty());
 }
