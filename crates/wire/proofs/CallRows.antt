@@ -2,7 +2,7 @@
 use Rattle.std.proofs.Common.{◌≡◌, ℕ, zero, suc, ◌*◌, ◌<◌, ◌≤◌, List, [], ◌∷◌, length, get_or, sym, refl, ap, ◌∙◌, subst, arith}
 use Rattle.std.proofs.lemmas.Bool.Decides.{nat_tests}
 use Rattle.estate.specs.Calls.{Call, claims, proves, comes, shares, cents, garbled}
-use Rattle.wire.specs.Bytes.{Bytes, Fitting, eight, number_at, numbers, row}
+use Rattle.wire.specs.Bytes.{Bytes, Fitting, eight, numbers, row}
 use Rattle.wire.specs.Calls.{kind, fields, call_row, Sendable, extent}
 use Rattle.wire.specs.Reading.{call_at, read, Whole}
 use Rattle.wire.specs.Laws.{OneCall}

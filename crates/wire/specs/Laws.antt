@@ -1,5 +1,5 @@
 -- What is true of calls and answers as rows of bytes. Each is a statement that the contract of a function names. Assumes nothing.
-use Rattle.std.specs.Prelude.{◌≡◌, ℕ, ◌^◌, ◌<◌, List, length, Some, Option}
+use Rattle.std.specs.Prelude.{◌≡◌, ◌^◌, ◌<◌, length, Some, Option}
 use Rattle.estate.specs.Calls.{Call}
 use Rattle.estate.specs.Answers.{Answer}
 use Rattle.estate.specs.Limits.{Limits}

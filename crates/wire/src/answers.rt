@@ -63,7 +63,12 @@ impl<L: Numbers> Answer<L> {
             Answer::Number(n) => put(out, AnswerKind::Number as u8, &[*n], &[]),
             Answer::Parts(d, shares) => {
                 let shares = shares.numbers();
-                put(out, AnswerKind::Parts as u8, &[*d, shares.len() as u64], shares)
+                put(
+                    out,
+                    AnswerKind::Parts as u8,
+                    &[*d, shares.len() as u64],
+                    shares,
+                )
             }
             Answer::Amounts(cents) => {
                 let cents = cents.numbers();
