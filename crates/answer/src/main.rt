@@ -10,7 +10,7 @@ ghost use Rattle.answer.specs.Checked.{Checked};
 use estate::cents_allowed;
 use std::io::Read;
 use std::{env, fs, io};
-use wire::{Call, Garbled, Place, Refusal, TurnedAway};
+use wire::{Call, Calls, Garbled, Place, Refusal, TurnedAway};
 
 // Turns a call away that is refused whatever the estate is, and hands on any other.
 fn checked(call: Result<Call, Garbled>) -> Result<Call, TurnedAway>
@@ -53,14 +53,11 @@ fn input(rt: &HostRuntime) -> io::Result<Vec<u8>> {
 
 fn run(rt: &HostRuntime) -> anyhow::Result<()> {
     let calls = input(rt)?;
-    let mut rest = calls.as_slice();
-    while !rest.is_empty() {
-        let (call, behind) = Call::split_first(rest);
+    for call in Calls(&calls) {
         match checked(call) {
             Ok(_) => println!(rt; "not answered yet: a later version divides")?,
             Err(refused) => println!(rt; "{refused}")?,
         }
-        rest = behind;
     }
     Ok(())
 }

@@ -1,5 +1,5 @@
 -- What a row of bytes is as a call, and where it ceases to be one. Assumes nothing.
-use Rattle.std.specs.Prelude.{◌≡◌, ℕ, suc, ◌<◌, ◌≤◌, min, cond, ◌||◌, List, ◌++◌, length, take, drop, ◌==◌, ◌≢◌, nat_lt, slice_index}
+use Rattle.std.specs.Prelude.{◌≡◌, ℕ, suc, ◌<◌, ◌≤◌, min, cond, ◌||◌, List, [], ◌++◌, length, take, drop, Some, None, Option, ◌==◌, ◌≢◌, nat_lt, slice_index}
 use Rattle.estate.specs.Calls.{Call, claims, proves, comes, shares, cents, garbled}
 use Rattle.wire.specs.Bytes.{number_at}
 use Rattle.wire.specs.Calls.{call_row, Sendable, extent, narrow}
@@ -54,3 +54,8 @@ pub record Split (bs : List ℕ) (c : Call) (rest : List ℕ) : Type 0 where
   pub left : rest ≡ drop (first_extent bs) bs
   pub shorter : 0 < length bs → length rest < length bs
   pub next : (k : Call) (behind : List ℕ) → Sendable k → bs ≡ call_row k ++ behind → (c ≡ narrow k) × (rest ≡ behind)
+
+-- What taking a call off a row of them says, with rest behind it: none where no bytes are left, and else the first.
+abbrev pub Takes : List ℕ → Option Call → List ℕ → Type 0
+Takes bs None rest = (bs ≡ []) × (rest ≡ [])
+Takes bs (Some c) rest = (0 < length bs) × Split bs c rest

@@ -102,8 +102,8 @@ impl Error for DecodeError {}
 impl From<AllocError> for DecodeError {
     ghost from_gives = { λ _ e. e ≡ OutOfMemory };
 
-    fn from(_e: AllocError) -> DecodeError {
-        DecodeError::OutOfMemory
+    fn from(_e: AllocError) -> Self {
+        Self::OutOfMemory
     }
 }
 

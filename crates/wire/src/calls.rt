@@ -1,10 +1,12 @@
 // Calls as rows of bytes.
 ghost use Rattle.std.specs.Prelude.{◌≡◌, ◌+◌, ◌≤◌, min, length, MatchResult};
+ghost use Rattle.std.specs.Iterator.{at_most};
+ghost use Rattle.std.specs.Option.{option_map};
 ghost use Rattle.estate.specs.Calls.{garbled};
 ghost use Rattle.wire.specs.Bytes.{number_at};
 ghost use Rattle.wire.specs.Calls.{call_row, Sendable, narrow};
 ghost use Rattle.wire.specs.Kinds.{asked_by};
-ghost use Rattle.wire.specs.Reading.{read, Whole, Heard, first_extent, Split};
+ghost use Rattle.wire.specs.Reading.{read, Whole, Heard, first_extent, Split, Takes};
 ghost use Rattle.wire.specs.Laws.{OneCall, NarrowEnough};
 ghost use Rattle.wire.specs.Meaning.{meaning, heard};
 ghost use Rattle.wire.specs.Written.{Written};
@@ -63,6 +65,27 @@ impl Call {
     {
         let (first, rest) = calls.split_at(end_of_first(calls));
         (Call::decode(first), rest)
+    }
+}
+
+// The calls of a row of bytes, one after the other. Behind one that cannot be read none are left.
+#[derive(Clone, Copy, Debug)]
+pub struct Calls<'a>(pub &'a [u8]);
+
+impl<'a> Iterator for Calls<'a> {
+    type Item = Result<Call, Garbled>;
+
+    ghost next_gives = { λ before call after. Takes before.0.now (option_map heard call) after.0.now };
+
+    ghost remaining = { λ calls. at_most (length calls.0.now) };
+
+    fn next(&mut self) -> Option<Result<Call, Garbled>> {
+        if self.0.is_empty() {
+            return None;
+        }
+        let (call, rest) = Call::split_first(self.0);
+        self.0 = rest;
+        Some(call)
     }
 }
 

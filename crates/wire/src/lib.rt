@@ -8,5 +8,5 @@ mod refusals;
 mod rows;
 
 pub use answers::{Answer, DecodeError, Numbers};
-pub use calls::Call;
+pub use calls::{Call, Calls};
 pub use refusals::{Garbled, Place, Refusal, TurnedAway, UnknownRefusal};

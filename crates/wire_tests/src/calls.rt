@@ -1,5 +1,5 @@
 // Calls and their rows, written out by hand.
-use wire::{Call, Garbled, Refusal};
+use wire::{Call, Calls, Garbled, Refusal};
 
 // Calls, and the bytes of each.
 const GOOD: [(Call, &[u8]); 7] = [
@@ -102,4 +102,15 @@ fn calls_one_by_one(rt: HostRuntime) {
     let (unknown, rest) = Call::split_first(b"\x09\x03\x03");
     assert_eq!(rt; unknown, Err(Garbled(0)));
     assert!(rt; rest.is_empty());
+}
+
+// The same, taken by turns: after the last there is none.
+#[test]
+fn calls_in_turn(rt: HostRuntime) {
+    let mut calls = Calls(b"\x03\x02\x07\0\0\0\0\0\0\0\x04\x00\x01");
+    assert_eq!(rt; calls.next(), Some(Ok(Call::Shares)));
+    assert_eq!(rt; calls.next(), Some(Ok(Call::Come(7))));
+    assert_eq!(rt; calls.next(), Some(Ok(Call::Cents)));
+    assert_eq!(rt; calls.next(), Some(Err(Garbled(2))));
+    assert_eq!(rt; calls.next(), None);
 }
