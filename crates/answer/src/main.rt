@@ -1,7 +1,7 @@
 // Answers a file of calls, or standard input, a line for each call. So far it answers what needs no estate.
 #![tactic(auto)]
 
-ghost use Rattle.std.specs.Prelude.{◌≡◌, ◌<◌, ◌≤◌, OnOk, IfErr};
+ghost use Rattle.std.specs.Prelude.{◌≡◌, ◌<◌, ◌≤◌, OnOk, OnErr, IfErr};
 ghost use Rattle.estate.specs.Limits.{most_cents};
 ghost use Rattle.wire.specs.Meaning.{heard};
 ghost use Rattle.wire.specs.declared.refusals.Refusal.TheVariants.{TooLarge};
@@ -29,7 +29,8 @@ fn checked(call: Result<Call, Garbled>) -> Result<Call, TurnedAway>
 // Refuses too large a number, at a place.
 fn few_enough(cents: u64, place: Place) -> Result<(), TurnedAway>
     ensures ok { OnOk result (cents ≤ most_cents) }
-    ensures err { IfErr result (λ t. (most_cents < cents) × (t.why ≡ TooLarge) × (t.place ≡ place)) }
+    ensures large { OnErr result (most_cents < cents) }
+    ensures err { IfErr result (λ t. (t.why ≡ TooLarge) × (t.place ≡ place)) }
 {
     if cents_allowed(cents) {
         Ok(())

@@ -5,4 +5,5 @@ pub mod Reading
 pub mod Answers
 pub mod Meaning
 pub mod Written
+pub mod Texts
 pub mod Laws

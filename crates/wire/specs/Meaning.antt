@@ -1,5 +1,5 @@
 -- What the code's calls, answers and refusals stand for. Assumes nothing.
-use Rattle.std.specs.Prelude.{◌≡◌, ℕ, ◌<◌, ◌⊎◌, List, Some, None, Ok, Err, Result, MatchResult, codes}
+use Rattle.std.specs.Prelude.{◌≡◌, ℕ, ◌<◌, ◌⊎◌, List, Some, None, Ok, Err, Result, MatchResult}
 use Rattle.estate.specs.Calls as calls
 use Rattle.estate.specs.Answers as answers
 use Rattle.estate.specs.Refusals.{unreadable, too_large, not_lent, not_there, no_room}
@@ -44,10 +44,6 @@ told items (Refused t) = answers.refused (refusal_number t.why) t.place
 told items (Number n) = answers.number n
 told items (Parts d xs) = answers.parts d (items xs)
 told items (Amounts xs) = answers.amounts (items xs)
-
-abbrev pub error_text : DecodeError → List ℕ
-error_text NoAnswer = codes "no answer has these bytes"
-error_text OutOfMemory = codes "out of memory"
 
 module _ {L : Type 0} (items : L → List ℕ) where
   -- what reading the bytes bs gives: the answer whose bytes they are; or no answer has them; or memory is wanting

@@ -2,7 +2,8 @@
 ghost use Rattle.std.specs.Prelude.{◌≡◌, ℕ, Some, List};
 ghost use Rattle.wire.specs.Kinds.{told_by};
 ghost use Rattle.wire.specs.Laws.{OneAnswer, AnswerBack};
-ghost use Rattle.wire.specs.Meaning.{told, error_text, IsShaped, IsDecoded};
+ghost use Rattle.wire.specs.Meaning.{told, IsShaped, IsDecoded};
+ghost use Rattle.wire.specs.Texts.{error_text};
 ghost use Rattle.wire.specs.Written.{Sent};
 ghost use Rattle.wire.specs.declared.answers.DecodeError.TheVariants.{OutOfMemory};
 

@@ -1,5 +1,5 @@
 // Calls as rows of bytes.
-ghost use Rattle.std.specs.Prelude.{◌≡◌, ◌+◌, ◌≤◌, min, length, MatchResult};
+ghost use Rattle.std.specs.Prelude.{◌≡◌, ◌+◌, ◌≤◌, min, length, IfOk, IfErr};
 ghost use Rattle.std.specs.Iterator.{at_most};
 ghost use Rattle.std.specs.Option.{option_map};
 ghost use Rattle.estate.specs.Calls.{garbled};
@@ -75,7 +75,7 @@ pub struct Calls<'a>(pub &'a [u8]);
 impl<'a> Iterator for Calls<'a> {
     type Item = Result<Call, Garbled>;
 
-    ghost next_gives = { λ before call after. Takes before.0.now (option_map heard call) after.0.now };
+    ghost next_gives = { λ old call new. Takes old.0.now (option_map heard call) new.0.now };
 
     ghost remaining = { λ calls. at_most (length calls.0.now) };
 
@@ -105,7 +105,8 @@ fn end_of_first(calls: &[u8]) -> usize
 
 // The kind of the call that these bytes are, or the place of the first byte that does not fit.
 fn kind_of(bytes: &[u8]) -> Result<CallKind, Garbled>
-    ensures { MatchResult result (λ k. Whole (asked_by k) bytes.now) (λ e. read bytes.now ≡ garbled e.0) }
+    ensures ok { IfOk result (λ k. Whole (asked_by k) bytes.now) }
+    ensures err { IfErr result (λ e. read bytes.now ≡ garbled e.0) }
 {
     let Some(first) = bytes.first() else {
         return Err(Garbled(0));

@@ -1,6 +1,7 @@
 // Why a call is turned away, and where.
-ghost use Rattle.std.specs.Prelude.{◌≡◌, Some, ◌++◌, decimal, codes};
+ghost use Rattle.std.specs.Prelude.{◌≡◌, Some};
 ghost use Rattle.wire.specs.Meaning.{refusal_number, IsRefusal};
+ghost use Rattle.wire.specs.Texts.{refused_text, garbled_text, unknown_refusal_text};
 ghost use Rattle.wire.specs.declared.refusals.Refusal.TheVariants.{Unreadable};
 
 use std::error::Error;
@@ -54,7 +55,7 @@ impl TryFrom<u64> for Refusal {
 }
 
 impl fmt::Display for UnknownRefusal {
-    ghost output = { λ e. Some (codes "no refusal has number " ++ decimal e.0) };
+    ghost output = { λ e. Some (unknown_refusal_text e.0) };
 
     fn fmt<W: fmt::Write>(&self, f: &mut fmt::Formatter<W>) -> fmt::Result {
         write!(f, "no refusal has number {}", self.0)
@@ -68,7 +69,7 @@ impl Error for UnknownRefusal {}
 pub struct Garbled(pub Place);
 
 impl fmt::Display for Garbled {
-    ghost output = { λ e. Some (codes "no call, from byte " ++ decimal e.0 ++ codes " on") };
+    ghost output = { λ e. Some (garbled_text e.0) };
 
     fn fmt<W: fmt::Write>(&self, f: &mut fmt::Formatter<W>) -> fmt::Result {
         write!(f, "no call, from byte {} on", self.0)
@@ -85,7 +86,7 @@ pub struct TurnedAway {
 }
 
 impl fmt::Display for TurnedAway {
-    ghost output = { λ t. Some (codes "refused " ++ decimal (refusal_number t.why) ++ codes " at " ++ decimal t.place) };
+    ghost output = { λ t. Some (refused_text (refusal_number t.why) t.place) };
 
     fn fmt<W: fmt::Write>(&self, f: &mut fmt::Formatter<W>) -> fmt::Result {
         write!(f, "refused {} at {}", u64::from(self.why), self.place)
