@@ -1,8 +1,7 @@
 -- A register after an entry. Assumes nothing.
-use Rattle.std.proofs.Common.{◌≡◌, ℕ, ◌<◌, ◌≤◌, ltb, List, [], ◌∷◌, ◌++◌, length, set, Some, None, Ok, Err, Option, Result, sym, refl, ap, ◌∙◌, ⊎_elim, arith}
-use Rattle.std.proofs.lemmas.List.{take-append-drop, length-set, length_push, set_past}
-use Rattle.std.proofs.lemmas.Bool.{cond-true, cond-false, lt-ltb, le-ltb}
-use Rattle.estate.specs.Order.{sorted}
+use Rattle.std.proofs.Common.{◌≡◌, ℕ, ◌<◌, ◌≤◌, List, length, Some, None, Ok, Err, Option, Result, ap, ◌∙◌, arith}
+use Rattle.std.proofs.lemmas.List.{length-set, length_push, set_past}
+use Rattle.std.proofs.lemmas.Bool.{lt-ltb, le-ltb}
 use Rattle.register.specs.Rows.{middle, Added, Changed}
 use Rattle.register.specs.Entries.{Keeps, entered, grown, Done}
 use Rattle.register.specs.declared.row.Moved.{Moved}
@@ -24,28 +23,17 @@ module _ (n : ℕ) (old new ws cs : List ℕ) (k : Keeps ws cs old n) where
   added c (Some at) a =
       let less : length cs < middle ws = omega (arith, a.room, even, k.count) in
       let words = adds c at ws cs new room (rw (k.words, k.count) at a) in
-      rw (cond-true (ltb (length cs) (middle ws)) (cs ++ c ∷ []) cs (lt-ltb _ _ less))
-      record { count = omega (arith, length_push cs c, k.count); room = omega (arith, less, k.count); words = words }
-  added c None a =
-      rw (cond-false (ltb (length cs) (middle ws)) (cs ++ c ∷ []) cs (le-ltb _ _ (omega (arith, a.0, even, k.count))))
-      record { count = k.count; room = k.room; words = a.1 ∙ k.words }
-
-  same_claims : (i c : ℕ) → length cs ≤ i → new ≡ old → Keeps ws (set cs i c) new n
-  same_claims i c none same =
-      rw (set_past cs i c none) record { count = k.count; room = k.room; words = same ∙ k.words }
+      rw (lt-ltb (length cs) (middle ws) less)
+      record { count = omega (arith, length_push cs c); room = omega arith; words = words }
+  added c None a = rw (le-ltb (length cs) (middle ws) (omega (arith, even)), a.1) k
 
   changed : (i c : ℕ) (r : Result Moved Unfit) → Changed n i c old new r → Keeps ws (entered (middle ws) cs (Change i c)) new n
   changed i c (Ok m) h =
       let words = changes i c m.from m.to ws cs new room (rw (k.words, k.count) at h) in
-      record { count = omega (arith, length-set cs i c, k.count); room = k.room; words = words }
-  changed i c (Err NotThere) h =
-      ⊎_elim (λ (t : middle old < n). absurd (omega (arith, even, k.room))) (λ (t : n ≤ i). same_claims i c (omega (arith, k.count)) h.1) h.0
+      record { count = omega (arith, length-set cs i c); room = k.room; words = words }
+  changed i c (Err NotThere) h = rw (set_past cs i c (omega (arith, even, h.0)), h.1) k
   changed i c (Err OutOfOrder) h = absurd (never_out_of_order i ws cs room (rw (k.words, k.count) at h.0))
 
   pub enters : (e : Entry) (r : ℕ) → Done e n old new r → Keeps ws (entered (middle ws) cs e) new r
   enters (Add c) r d = rw d.count (added c d.answer d.added)
   enters (Change i c) r d = rw d.count (changed i c d.answer d.changed)
-
-pub nothing_yet : (ws : List ℕ) → Keeps ws [] ws 0
-unfolding sorted
-nothing_yet ws = record { count = refl; room = omega arith; words = sym (take-append-drop (middle ws) ws) }

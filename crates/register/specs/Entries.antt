@@ -1,5 +1,5 @@
 -- What is entered in a register, and the claims that it then has. Assumes nothing.
-use Rattle.std.specs.Prelude.{◌≡◌, ℕ, ◌+◌, ◌≤◌, cond, List, [], ◌∷◌, ◌++◌, length, Some, None, fold, Option, Result, nat_lt, slice_set}
+use Rattle.std.specs.Prelude.{◌≡◌, ℕ, ◌+◌, ◌≤◌, if◌then◌else◌, List, [], ◌∷◌, ◌++◌, length, Some, None, fold, Option, Result, nat_lt, slice_set}
 use Rattle.register.specs.Rows.{middle, kept, Added, Changed}
 use Rattle.register.specs.declared.row.Moved.{Moved}
 use Rattle.register.specs.declared.rows.Unfit.{Unfit}
@@ -8,7 +8,7 @@ use Rattle.register.specs.declared.entries.Entry.TheVariants.{Add, Change}
 
 -- one more claim, last, where there is room; or a claim that is another from now on, where it is there
 abbrev pub entered : ℕ → List ℕ → Entry → List ℕ
-entered room cs (Add c) = cond (nat_lt (length cs) room) (cs ++ c ∷ []) cs
+entered room cs (Add c) = if nat_lt (length cs) room then cs ++ c ∷ [] else cs
 entered room cs (Change i c) = slice_set cs i c
 
 -- the claims after all entries, from none

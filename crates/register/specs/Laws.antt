@@ -1,7 +1,7 @@
 -- What the contracts of this crate come to, said in lists. The contract of `enter_all` names each. Assumes nothing.
-use Rattle.std.specs.Prelude.{◌≡◌, ℕ, ◌+◌, ◌-◌, ◌≤◌, List, [], ◌∷◌, ◌++◌, length, slice_set}
+use Rattle.std.specs.Prelude.{◌≡◌, ℕ, ◌+◌, ◌-◌, ◌≤◌, List, [], ◌∷◌, ◌++◌, length, Contains, slice_set}
 use borrow.Rule.Slice.PartMut.{put_mid}
-use Rattle.std.specs.List.{insert as inserted, remove as removed, ContainsAt}
+use Rattle.std.specs.List.{insert as inserted, remove as removed}
 use Rattle.std.specs.List.Sorted.{IsNonDecreasing}
 use Rattle.estate.specs.Order.{insert, remove, sorted, SameClaims}
 use Rattle.register.specs.Row.{part, Fits, Missing, Insertion, Removal, Replacement}
@@ -32,7 +32,7 @@ OnePlace =
 -- What is missing from a part in order is not in it.
 abbrev pub NotIn : Type 0
 NotIn =
-    (low n c : ℕ) (ws : List ℕ) → low + n ≤ length ws → Missing low (low + n) c ws → IsNonDecreasing (part low n ws) → ContainsAt (part low n ws) c → ⊥
+    (low n c : ℕ) (ws : List ℕ) → low + n ≤ length ws → Missing low (low + n) c ws → IsNonDecreasing (part low n ws) → Contains (part low n ws) c → ⊥
 
 -- Ascending claims stay so with one more, and with one less.
 abbrev pub StaysRising : Type 0

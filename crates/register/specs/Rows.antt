@@ -1,6 +1,6 @@
 -- A register: two rows of words of the same length, side by side in lent memory, for claims as they came and, from the
 -- middle on, for the same claims in order. Assumes nothing.
-use Rattle.std.specs.Prelude.{◌≡◌, ℕ, ◌+◌, ◌/◌, ◌<◌, ◌≤◌, ◌⊎◌, List, ◌++◌, length, take, drop, Some, None, Ok, Err, Option, Result, slice_index, slice_set}
+use Rattle.std.specs.Prelude.{◌≡◌, ℕ, ◌+◌, ◌/◌, ◌<◌, ◌≤◌, ◌⊎◌, List, ◌++◌, length, take, drop, Some, None, Ok, Err, Option, Result, codes, slice_index, slice_set}
 use Rattle.estate.specs.Order.{sorted}
 use Rattle.register.specs.Row.{Missing, Insertion, Replacement}
 use Rattle.register.specs.declared.row.Moved.{Moved}
@@ -32,6 +32,11 @@ abbrev pub Unchanged : ℕ → ℕ → List ℕ → Unfit → Type 0
 Unchanged n i ws NotThere = (middle ws < n) ⊎ (n ≤ i)
 Unchanged n i ws OutOfOrder =
     (n ≤ middle ws) × (i < n) × Missing (middle ws) (middle ws + n) (slice_index ws i) ws
+
+-- what is printed of it
+abbrev pub unfit_text : Unfit → List ℕ
+unfit_text NotThere = codes "no such claim is there"
+unfit_text OutOfOrder = codes "the claims are not in order"
 
 -- what changing leaves and answers
 abbrev pub Changed : ℕ → ℕ → ℕ → List ℕ → List ℕ → Result Moved Unfit → Type 0

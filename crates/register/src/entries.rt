@@ -6,7 +6,7 @@ ghost use Rattle.register.specs.Rows.{middle};
 use crate::rows::{add, change};
 
 // What is entered.
-#[derive(Clone, Copy)]
+#[derive(Clone, Copy, Debug, PartialEq, Eq)]
 pub enum Entry {
     // a claim, last
     Add(u64),
@@ -19,10 +19,7 @@ fn enter(rows: &mut [u64], count: usize, entry: Entry) -> usize
     ensures { Done entry count rows.old rows.new result }
 {
     match entry {
-        Entry::Add(claim) => match add(rows, count, claim) {
-            Some(_) => count + 1,
-            None => count,
-        },
+        Entry::Add(claim) => add(rows, count, claim).map_or(count, |_| count + 1),
         Entry::Change(i, claim) => {
             let _ = change(rows, count, i, claim);
             count
@@ -48,8 +45,9 @@ pub fn enter_all(rows: &mut [u64], entries: &[Entry]) -> usize
     ensures never_out_of_order { NeverOutOfOrder }
 {
     let mut count = 0;
-    for item in entries {
-        count = enter(rows, count, *item);
+    // With `fold` nothing would be known of what its closure leaves in `rows`.
+    for &entry in entries {
+        count = enter(rows, count, entry);
     }
     count
 }

@@ -1,6 +1,6 @@
 // A row of claims in ascending order, in some part of lent memory: `count` words from `start` on. Places are those of words
 // in the memory. What lies outside the part is left as it is.
-ghost use Rattle.std.specs.Prelude.{◌<◌, ◌≤◌, length};
+ghost use Rattle.std.specs.Prelude.{◌≡◌, ◌+◌, ◌<◌, ◌≤◌, ◌↔◌, length, IsSome, IfSome};
 ghost use Rattle.register.specs.Row.{Fits, Found, Goes, Carried, Inserted, Removed, Replaced};
 
 // A claim at `from` went out and one at `to` came in: what lay between has moved by one place.
@@ -10,50 +10,67 @@ pub struct Moved {
     pub to: usize,
 }
 
-// A place where a claim fits, found by halving.
-fn place(words: &[u64], start: usize, end: usize, claim: u64) -> usize
-    requires forward { start ≤ end }
-    requires within { end ≤ length words.now }
-    ensures { Fits start end claim words.now result }
-{
-    let mut low = start;
-    let mut high = end;
-    while low < high {
-        let middle = low + (high - low) / 2;
-        if words[middle] < claim {
-            low = middle + 1;
-        } else {
-            high = middle;
+// A part of lent memory, from `start` on and before `end`.
+#[derive(Clone, Copy)]
+struct Part<'a> {
+    words: &'a [u64],
+    start: usize,
+    end: usize,
+    ghost forward: { start ≤ end },
+    ghost within: { end ≤ length words.now },
+}
+
+impl<'a> Part<'a> {
+    // The `count` words from `start` on, if there are so many.
+    fn new(words: &'a [u64], start: usize, count: usize) -> Option<Self>
+        ensures there { IsSome result ↔ (start + count ≤ length words.now) }
+        ensures same { IfSome result (λ part. (part.words.now ≡ words.now) × (part.start ≡ start)) }
+        ensures end { IfSome result (λ part. part.end ≡ start + count) }
+    {
+        let end = start.checked_add(count).filter(|&end| end <= words.len())?;
+        Some(Part { words, start, end })
+    }
+
+    // A place where a claim fits, found by halving.
+    fn place(&self, claim: u64) -> usize
+        ensures { Fits self.now.start self.now.end claim self.now.words.now result }
+    {
+        // A loop, since the library's `partition_point` says of words out of order no more than that it is in the part.
+        let mut low = self.start;
+        let mut high = self.end;
+        while low < high {
+            let middle = low + (high - low) / 2;
+            if self.words[middle] < claim {
+                low = middle + 1;
+            } else {
+                high = middle;
+            }
         }
+        low
     }
-    low
-}
 
-// The place of a claim that is there.
-fn find(words: &[u64], start: usize, end: usize, claim: u64) -> Option<usize>
-    requires forward { start ≤ end }
-    requires within { end ≤ length words.now }
-    ensures { Found start end claim words.now result }
-{
-    let at = place(words, start, end, claim);
-    if at < end && words[at] == claim {
-        Some(at)
-    } else {
-        None
+    // The place of a claim that is there.
+    fn find(&self, claim: u64) -> Option<usize>
+        ensures { Found self.now.start self.now.end claim self.now.words.now result }
+    {
+        let at = self.place(claim);
+        (at < self.end && self.words[at] == claim).then_some(at)
     }
-}
 
-// Where a claim goes that comes for the one at `from`. It is looked for only on the side where it lies.
-fn new_place(words: &[u64], start: usize, end: usize, from: usize, claim: u64) -> usize
-    requires above { start ≤ from }
-    requires below { from < end }
-    requires within { end ≤ length words.now }
-    ensures { Goes start end from claim words.now result }
-{
-    if words[from] < claim {
-        place(words, from + 1, end, claim) - 1
-    } else {
-        place(words, start, from, claim)
+    // Where a claim goes that comes for the one at `from`. It is looked for only on the side where it lies.
+    fn new_place(&self, from: usize, claim: u64) -> usize
+        requires above { self.now.start ≤ from }
+        requires below { from < self.now.end }
+        ensures { Goes self.now.start self.now.end from claim self.now.words.now result }
+    {
+        let mut side = *self;
+        if self.words[from] < claim {
+            side.start = from + 1;
+            side.place(claim) - 1
+        } else {
+            side.end = from;
+            side.place(claim)
+        }
     }
 }
 
@@ -76,10 +93,11 @@ fn carry(words: &mut [u64], from: usize, to: usize, claim: u64)
 pub fn insert(words: &mut [u64], start: usize, count: usize, claim: u64) -> Option<usize>
     ensures { Inserted start count claim words.old words.new result }
 {
-    if words.len() < start || words.len() - start <= count {
+    let part = Part::new(words, start, count)?;
+    if part.end == words.len() {
         return None;
     }
-    let at = place(words, start, start + count, claim);
+    let at = part.place(claim);
     carry(words, start + count, at, claim);
     Some(at)
 }
@@ -89,10 +107,8 @@ pub fn insert(words: &mut [u64], start: usize, count: usize, claim: u64) -> Opti
 pub fn remove(words: &mut [u64], start: usize, count: usize, claim: u64) -> Option<usize>
     ensures { Removed start count claim words.old words.new result }
 {
-    if words.len() < start || words.len() - start < count {
-        return None;
-    }
-    let at = find(words, start, start + count, claim)?;
+    let part = Part::new(words, start, count)?;
+    let at = part.find(claim)?;
     carry(words, at, start + count - 1, 0);
     Some(at)
 }
@@ -102,11 +118,9 @@ pub fn remove(words: &mut [u64], start: usize, count: usize, claim: u64) -> Opti
 pub fn replace(words: &mut [u64], start: usize, count: usize, old: u64, new: u64) -> Option<Moved>
     ensures { Replaced start count old new words.old words.new result }
 {
-    if words.len() < start || words.len() - start < count {
-        return None;
-    }
-    let from = find(words, start, start + count, old)?;
-    let to = new_place(words, start, start + count, from, new);
+    let part = Part::new(words, start, count)?;
+    let from = part.find(old)?;
+    let to = part.new_place(from, new);
     carry(words, from, to, new);
     Some(Moved { from, to })
 }

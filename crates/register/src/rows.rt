@@ -1,7 +1,10 @@
 // A register: two rows of words side by side, for claims as they came and, from the middle on, for the same in order.
-ghost use Rattle.register.specs.Rows.{Added, Changed};
+ghost use Rattle.std.specs.Prelude.{Some};
+ghost use Rattle.register.specs.Rows.{Added, Changed, unfit_text};
 
 use crate::row::{Moved, insert, replace};
+use std::error::Error;
+use std::fmt;
 
 // Why a claim was not changed.
 #[derive(Clone, Copy, Debug, PartialEq, Eq)]
@@ -11,6 +14,19 @@ pub enum Unfit {
     // the claim is not found among those in order, so no register has left these words
     OutOfOrder,
 }
+
+impl fmt::Display for Unfit {
+    ghost output = { λ why. Some (unfit_text why) };
+
+    fn fmt<W: fmt::Write>(&self, f: &mut fmt::Formatter<W>) -> fmt::Result {
+        f.write_str(match self {
+            Unfit::NotThere => "no such claim is there",
+            Unfit::OutOfOrder => "the claims are not in order",
+        })
+    }
+}
+
+impl Error for Unfit {}
 
 // Adds a claim last, and answers where it is among those in order. Where there is no room, nothing is done.
 pub fn add(rows: &mut [u64], count: usize, claim: u64) -> Option<usize>
@@ -33,9 +49,7 @@ pub fn change(rows: &mut [u64], count: usize, i: usize, claim: u64) -> Result<Mo
         return Err(Unfit::NotThere);
     }
     let old = rows[i];
-    let Some(moved) = replace(rows, middle, count, old, claim) else {
-        return Err(Unfit::OutOfOrder);
-    };
+    let moved = replace(rows, middle, count, old, claim).ok_or(Unfit::OutOfOrder)?;
     rows[i] = claim;
     Ok(moved)
 }

@@ -1,34 +1,39 @@
-use Rattle.std.proofs.Common.{[]}
+use Rattle.std.proofs.Common.{[], refl, arith}
+use Rattle.std.proofs.lemmas.Grind.{common_steps}
+use Rattle.estate.specs.Order.{sorted}
 use Rattle.std.proofs.lemmas.List.{take_all}
 use Rattle.std.proofs.lemmas.List.Sums.{fold_more}
 use Rattle.register.specs.Rows.{middle}
 use Rattle.register.specs.Entries.{entered}
 use Rattle.register.specs.declared.entries.Entry.TheVariants.{Add}
-use Rattle.register.proofs.AsLists.{inserts, removes, replaces, one_place, not_in, stays_rising, ascending, only_ascending}
+use Rattle.register.proofs.AsLists.{inserts, removes, replaces, one_place, not_in}
+use Rattle.estate.proofs.Ordered.{rising_insert, rising_remove, rising_sorted}
+use Rattle.estate.proofs.SameClaims.{same_sorted, only_sorted}
 use Rattle.register.proofs.Keeping.{adds, changes, never_out_of_order}
-use Rattle.register.proofs.Entering.{nothing_yet, enters}
+use Rattle.register.proofs.Entering.{enters}
 use Rattle.register.proofs.entries.enter_all.Goals as goal
 
-pub loop-item-init : goal.loop-item-init
-loop-item-init c = nothing_yet c.args.rows.now
+pub loop-entry-init : goal.loop-entry-init
+unfolding sorted
+loop-entry-init c = record { count = refl; room = omega arith; words = grind (arith, common_steps) }
 
-pub loop-item-preserved : goal.loop-item-preserved
-loop-item-preserved c =
-    rw (fold_more (entered (middle c.args.rows.now)) [] c.args.entries.now c.loop-item.item-index (Add 0) c.loop-item-test.true)
-    (enters _ _ _ _ _ c.loop-item.invariant _ _ c.enter-count.ensures)
+pub loop-entry-preserved : goal.loop-entry-preserved
+loop-entry-preserved c =
+    rw (fold_more (entered (middle c.args.rows.now)) [] c.args.entries.now c.loop-entry.entry-index (Add 0) c.loop-entry-test.true)
+    (enters _ _ _ _ _ c.loop-entry.invariant _ _ c.enter-count.ensures)
 
 pub returns : goal.returns
 returns c =
     record {
-      keeps = rw (take_all _ c.args.entries.now c.loop-item-test.false) at c.loop-item.invariant;
+      keeps = rw (take_all _ c.args.entries.now c.loop-entry-test.false) at c.loop-entry.invariant;
       inserts = inserts;
       removes = removes;
       replaces = replaces;
       one_place = one_place;
       not_in = not_in;
-      stays_rising = stays_rising;
-      ascending = ascending;
-      only_ascending = only_ascending;
+      stays_rising = λ c ks rise. (rising_insert c ks rise, rising_remove c ks rise);
+      ascending = λ cs. (rising_sorted cs, same_sorted cs);
+      only_ascending = only_sorted;
       adds = adds;
       changes = changes;
       never_out_of_order = never_out_of_order;
