@@ -9,6 +9,7 @@ ghost use Rattle.answer.specs.Checked.{Checked};
 
 use estate::cents_allowed;
 use std::io::Read;
+use std::rt::{Env, Files};
 use std::{env, fs, io};
 use wire::{Call, Calls, Garbled, Place, Refusal, TurnedAway};
 
@@ -43,16 +44,16 @@ fn few_enough(cents: u64, place: Place) -> Result<(), TurnedAway>
 }
 
 // The bytes of the file that the first argument names, or of standard input.
-fn input(rt: &HostRuntime) -> io::Result<Vec<u8>> {
+fn input(rt: &(impl Env + Files + Input + AllocGlobal)) -> io::Result<Vec<u8>> {
     if let Some(path) = env::args(rt)?.nth(1) {
         return fs::read(rt, path.as_str());
     }
     let mut bytes = Vec::new(rt.alloc());
-    rt.stdin().read_to_end(&mut bytes)?;
+    rt.reader().read_to_end(&mut bytes)?;
     Ok(bytes)
 }
 
-fn run(rt: &HostRuntime) -> anyhow::Result<()> {
+fn run(rt: &(impl Env + Files + Input + Print + AllocGlobal)) -> anyhow::Result<()> {
     let calls = input(rt)?;
     for call in Calls(&calls) {
         match checked(call) {

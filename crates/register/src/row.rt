@@ -1,5 +1,6 @@
 // A row of claims in ascending order, in some part of lent memory: `count` words from `start` on. Places are those of words
-// in the memory. What lies outside the part is left as it is.
+// in the memory. What lies outside the part is left as it is. The memory is lent for each call, so the functions that write
+// are told the part by its start and count; what only reads is a method of `Part`.
 ghost use Rattle.std.specs.Prelude.{◌≡◌, ◌+◌, ◌<◌, ◌≤◌, ◌↔◌, length, IsSome, IfSome};
 ghost use Rattle.register.specs.Row.{Fits, Found, Goes, Carried, Inserted, Removed, Replaced};
 

@@ -1,4 +1,6 @@
-// A register: two rows of words side by side, for claims as they came and, from the middle on, for the same in order.
+// A register: two rows of words side by side, for claims as they came and, from the middle on, for the same in order. It is
+// kept in memory of a fixed size that is lent for each call, beside other things, so it is no vector, and its words and
+// their count are told to each call.
 ghost use Rattle.std.specs.Prelude.{Some};
 ghost use Rattle.register.specs.Rows.{Added, Changed, unfit_text};
 
