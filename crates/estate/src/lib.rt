@@ -1,7 +1,7 @@
 // The limits of an estate, as its definitions have them, and the examples that its definitions are held to.
 #![tactic(auto)]
 
-ghost use Rattle.std.specs.Prelude.{◌≡◌, length, nat_le};
+ghost use Rattle.std.specs.Prelude.{◌≡◌, ◌↔◌, ◌≤◌, IsTrue, length};
 ghost use Rattle.std.specs.List.{AllByRecursion};
 ghost use Rattle.estate.specs.Examples.{Worked, table};
 ghost use Rattle.estate.specs.Limits.{most_cents};
@@ -20,7 +20,7 @@ pub const MOST_THERE: u64 = 1_000_000_000_000;
 
 // Whether one claim may be so many cents, and so many may come at once.
 pub fn cents_allowed(cents: u64) -> bool
-    ensures { result ≡ nat_le cents most_cents }
+    ensures { IsTrue result ↔ (cents ≤ most_cents) }
 {
     cents <= MOST_CENTS
 }
