@@ -1,9 +1,9 @@
 -- Divisions compared, and creditors: more there is nobody's loss, so there is just one; who claims more gets no less and
 -- loses no less. Assumes nothing.
-use Rattle.std.proofs.Common.{ℕ, ◌*◌, ◌<◌, ◌≤◌, ◌⊎◌, List, get_or, ap, ◌∙◌, inl, inr, mul-le-mul_left, arith}
+use Rattle.std.proofs.Common.{◌≡◌, ◌-◌, true, ℕ, ◌*◌, ◌<◌, ◌≤◌, ◌⊎◌, List, get_or, ap, ◌∙◌, inl, inr, mul-le-mul_left, arith}
 use Rattle.std.proofs.lemmas.Bool.{cases_lt}
-use Rattle.estate.specs.Division.{Agrees}
-use Rattle.estate.specs.Promises.{MoreThere, JustOne, LargerClaims}
+use Rattle.estate.specs.Division.{Agrees, divides}
+use Rattle.estate.specs.Promises.{MoreThere, JustOne}
 use Rattle.estate.proofs.Rows.{sum_apart}
 use Rattle.estate.proofs.Facts.{facts}
 use Rattle.estate.proofs.Plain.{plainly_finer}
@@ -34,8 +34,15 @@ pub just_one : JustOne
 just_one d f e i cs xs ys p q =
     omega (arith, more_there d f e e i cs xs ys (omega arith) p q, more_there f d e e i cs ys xs (omega arith) q p)
 
-pub larger_claims : LargerClaims
-larger_claims d e i j cs xs h less =
-    let p = facts d e cs xs h in
-    let more = mul-le-mul_left d less in
-    (omega (arith, p.plain i j, p.below i), omega (arith, p.plain i j, p.below i, p.below j))
+module _ (d e i j : ℕ) (cs xs : List ℕ) (h : divides d e cs xs ≡ true) (less : get_or cs i 0 ≤ get_or cs j 0) where
+  p : Agrees d e cs xs
+  p = facts d e cs xs h
+
+  claimed : d * get_or cs i 0 ≤ d * get_or cs j 0
+  claimed = mul-le-mul_left d less
+
+  pub gets_no_less : get_or xs i 0 ≤ get_or xs j 0
+  gets_no_less = omega (arith, claimed, p.plain i j, p.below i)
+
+  pub loses_no_less : d * get_or cs i 0 - get_or xs i 0 ≤ d * get_or cs j 0 - get_or xs j 0
+  loses_no_less = omega (arith, claimed, p.plain i j, p.below i, p.below j)

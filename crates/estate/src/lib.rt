@@ -27,6 +27,7 @@ pub fn cents_allowed(cents: u64) -> bool
 
 // How many worked examples there are. The definitions give each its shares and its cents. What they answer is right, and
 // whole cents are what they should be.
+#[tactic(auto, using(crate::proofs::Carried::worked_examples))]
 pub fn worked_examples() -> usize
     ensures count { result ≡ length table }
     ensures hold { AllByRecursion Worked table }

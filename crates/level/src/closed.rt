@@ -44,6 +44,5 @@ pub fn terms_of(there: u64, claims: &[u64]) -> Option<Terms>
     ensures terms_right { TermsRight }
     ensures terms_small { TermsSmall }
 {
-    let estate = Estate::new(there, total(claims))?;
-    Some(estate.terms(claims))
+    Estate::new(there, total(claims)).map(|estate| estate.terms(claims))
 }
