@@ -1,27 +1,20 @@
 -- Claims in order are the same claims, each as often, and no others that ascend are. Assumes nothing.
-use Rattle.std.proofs.Common.{◌≡◌, ℕ, zero, suc, ◌+◌, ◌<◌, cond, eqb, List, [], ◌∷◌, map, length, get_or, sum_by, count_by, sym, refl, ap, ◌∙◌, ⊎_elim, arith}
+use Rattle.std.proofs.Common.{◌≡◌, ℕ, zero, suc, ◌+◌, ◌<◌, cond, eqb, List, [], ◌∷◌, map, length, get_or, sum_by, count_by, sym, refl, ap, ◌∙◌, ⊎_elim, arith, sum}
 use Rattle.std.specs.List.{remove}
 use Rattle.std.specs.List.Sorted.{IsNonDecreasing}
 use Rattle.std.proofs.lemmas.Bool.{cases_eq}
 use Rattle.std.proofs.lemmas.Bool.Decides.{nat_tests}
 use Rattle.std.proofs.lemmas.List.Sums.{sum_by-cons}
-use Rattle.estate.specs.Sums.{sum}
 use Rattle.estate.specs.Order.{insert, sorted, SameClaims}
-use Rattle.estate.proofs.Ordered.{sum-map_sorted, rising_tail}
+use Rattle.estate.proofs.Ordered.{sum_by-sorted, rising_tail}
 use Rattle.estate.proofs.Reordered.{sorted_apart}
 
 -- how often a claim is another
 abbrev times : ℕ → ℕ → ℕ
 times c k = cond (eqb c k) 1 0
 
-sum-map_by : (f : ℕ → ℕ) (cs : List ℕ) → sum (map f cs) ≡ sum_by f cs
-unfolding sum
-sum-map_by f [] = refl
-sum-map_by f (c ∷ cs) = ap (λ n. f c + n) (sum-map_by f cs) ∙ sym (sum_by-cons f c cs)
-
 pub same_sorted : (cs : List ℕ) → SameClaims (sorted cs) cs
-same_sorted cs c =
-    sym (sum-map_by (times c) (sorted cs)) ∙ sum-map_sorted (times c) cs ∙ sum-map_by (times c) cs
+same_sorted cs c = sum_by-sorted (times c) cs
 
 -- and no others that ascend are
 sum_by-apart : (f : ℕ → ℕ) (cs : List ℕ) (i : ℕ) → i < length cs → sum_by f cs ≡ f (get_or cs i 0) + sum_by f (remove cs i)

@@ -1,9 +1,9 @@
 -- Who is paid a whole number of cents and goes changes nothing for the others. Assumes nothing.
-use Rattle.std.proofs.Common.{◌≡◌, ℕ, zero, suc, ◌+◌, ◌-◌, ◌*◌, List, [], ◌∷◌, length, get_or, refl, ap, arith}
+use Rattle.std.proofs.Common.{◌≡◌, ℕ, zero, suc, ◌+◌, ◌-◌, ◌*◌, List, [], ◌∷◌, length, get_or, sym, refl, ap, arith, sum}
 use native.Mathlib.Nat.{mul-sub}
-use Rattle.estate.specs.Sums.{sum}
 use Rattle.estate.specs.Division.{Agrees}
 use Rattle.estate.specs.Promises.{without, WhoGoes}
+use Rattle.estate.proofs.Rows.{sum-cons}
 use Rattle.estate.proofs.Facts.{facts, from_facts}
 
 -- where the one at j stood before the one at i went
@@ -28,10 +28,10 @@ same_length_without (x ∷ xs) (y ∷ ys) zero l = omega arith
 same_length_without (x ∷ xs) (y ∷ ys) (suc i) l = ap suc (same_length_without xs ys i (omega arith))
 
 sum-without : (xs : List ℕ) (i : ℕ) → get_or xs i 0 + sum (without xs i) ≡ sum xs
-unfolding without sum
+unfolding without
 sum-without [] i = refl
-sum-without (x ∷ xs) zero = refl
-sum-without (x ∷ xs) (suc i) = omega (arith, sum-without xs i)
+sum-without (x ∷ xs) zero = sym (sum-cons x xs)
+sum-without (x ∷ xs) (suc i) = omega (arith, sum-cons, sum-without xs i)
 
 others_agree : (d e i x : ℕ) (cs xs : List ℕ) → Agrees d e cs xs → get_or xs i 0 ≡ d * x → Agrees d (e - x) (without cs i) (without xs i)
 others_agree d e i x cs xs p paid = record {

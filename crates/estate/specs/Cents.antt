@@ -1,6 +1,5 @@
 -- Whole cents from shares in d-ths of a cent. Assumes nothing.
-use Rattle.std.specs.Prelude.{◌≡◌, ℕ, zero, suc, ◌+◌, ◌-◌, ◌*◌, ◌/◌, ◌<◌, ◌≤◌, Bool, List, [], ◌∷◌, map, length, if◌then◌else◌, nat_lt, slice_index}
-use Rattle.estate.specs.Sums.{sum}
+use Rattle.std.specs.Prelude.{◌≡◌, ℕ, zero, suc, ◌+◌, ◌-◌, ◌*◌, ◌/◌, ◌<◌, ◌≤◌, Bool, List, [], ◌∷◌, map, length, if◌then◌else◌, nat_lt, slice_index, sum}
 
 -- each share rounded down
 abbrev pub downs : ℕ → List ℕ → List ℕ

@@ -1,8 +1,7 @@
 -- An estate: what is there, and what is claimed. What others say of an estate they say by the words below, not by its
 -- fields, so that a wider estate changes these words alone. Assumes nothing.
-use Rattle.std.specs.Prelude.{◌≡◌, ℕ, ◌≤◌, min, true, List, [], length}
+use Rattle.std.specs.Prelude.{◌≡◌, ℕ, ◌≤◌, min, true, List, [], length, sum}
 use Rattle.std.specs.List.{AllByRecursion}
-use Rattle.estate.specs.Sums.{sum}
 use Rattle.estate.specs.Division.{divides}
 use Rattle.estate.specs.Limits.{most_creditors, most_cents, most_there}
 

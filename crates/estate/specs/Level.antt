@@ -1,6 +1,5 @@
 -- The level: how much each creditor gets, or loses, at most. One fraction decides the whole division. Assumes nothing.
-use Rattle.std.specs.Prelude.{ℕ, suc, ◌-◌, ◌*◌, Bool, List, [], ◌∷◌, length, if◌then◌else◌, nat_le}
-use Rattle.estate.specs.Sums.{sum}
+use Rattle.std.specs.Prelude.{ℕ, suc, ◌-◌, ◌*◌, Bool, List, [], ◌∷◌, length, if◌then◌else◌, nat_le, sum}
 use Rattle.estate.specs.Order.{sorted}
 
 -- the level is the fraction spread / sharers: what is spread among the creditors whose claims reach it

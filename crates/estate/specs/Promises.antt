@@ -1,6 +1,5 @@
 -- What is true of every division. Each is named by the contract of a function of this crate. Assumes nothing.
-use Rattle.std.specs.Prelude.{◌≡◌, ℕ, zero, suc, ◌+◌, ◌-◌, ◌*◌, ◌≤◌, max, true, List, [], ◌∷◌, length, IsTrue, ◌↔◌, slice_index}
-use Rattle.estate.specs.Sums.{sum}
+use Rattle.std.specs.Prelude.{◌≡◌, ℕ, zero, suc, ◌+◌, ◌-◌, ◌*◌, ◌≤◌, max, true, List, [], ◌∷◌, length, IsTrue, ◌↔◌, slice_index, sum}
 use Rattle.estate.specs.Two.{plainly}
 use Rattle.estate.specs.Division.{divides, Agrees}
 use Rattle.estate.specs.Cents.{in_cents, Pays}

@@ -1,8 +1,7 @@
 -- The terms that are found are those of the closed form. Assumes nothing.
-use Rattle.std.proofs.Common.{◌≡◌, ℕ, ◌*◌, ◌≤◌, max, Bool, List, map, Some, ap, ◌∙◌, mul-le-mul_right, mul-le-mul, arith}
+use Rattle.std.proofs.Common.{◌≡◌, ℕ, ◌*◌, ◌≤◌, max, Bool, List, map, Some, ap, ◌∙◌, mul-le-mul_right, mul-le-mul, arith, sum}
 use Rattle.std.specs.List.Sorted.{IsNonDecreasing}
 use Rattle.std.proofs.lemmas.Bool.Decides.{nat_tests}
-use Rattle.estate.specs.Sums.{sum}
 use Rattle.estate.specs.Order.{sorted, SameClaims}
 use Rattle.estate.specs.Limits.{most_creditors, most_cents, most_claimed}
 use Rattle.estate.specs.Level.{Level, level, scarce, target}

@@ -1,9 +1,8 @@
 -- Claims gone through one by one: the laws by which the sum of them, and filling them, go on from a place to the next. A
 -- loop's invariant has them, so that the checker goes on by itself. Assumes nothing.
-use Rattle.std.proofs.Common.{◌≡◌, ℕ, suc, ◌+◌, ◌-◌, ◌*◌, ◌<◌, ◌≤◌, leb, List, length, get_or, drop, ◌∙◌, mul-le-mul_right, arith}
+use Rattle.std.proofs.Common.{◌≡◌, ℕ, suc, ◌+◌, ◌-◌, ◌*◌, ◌<◌, ◌≤◌, leb, List, length, get_or, drop, ◌∙◌, mul-le-mul_right, arith, sum}
 use Rattle.std.proofs.lemmas.List.{at_drop_more, at_drop_all, length-drop}
 use Rattle.std.proofs.lemmas.Bool.{cond-true, cond-false, le-leb, lt-leb}
-use Rattle.estate.specs.Sums.{sum}
 use Rattle.estate.specs.Level.{fill}
 
 pub record Adding (ks : List ℕ) : Type 0 where
@@ -11,7 +10,6 @@ pub record Adding (ks : List ℕ) : Type 0 where
   pub done : (i : ℕ) → length ks ≤ i → sum (drop i ks) ≡ 0
 
 pub adding : (ks : List ℕ) → Adding ks
-unfolding sum
 adding ks = record { more = λ i h. at_drop_more sum ks i 0 h; done = λ i h. at_drop_all sum ks i h }
 
 -- at each place all that are left share what is left, or the least of them is filled

@@ -1,8 +1,7 @@
 // What is known of an estate without looking at each claim.
-ghost use Rattle.std.specs.Prelude.{◌≡◌, ◌<◌, ◌≤◌, MatchOption};
+ghost use Rattle.std.specs.Prelude.{◌≡◌, ◌<◌, ◌≤◌, MatchOption, sum};
 ghost use Rattle.estate.specs.Level.{scarce_of_sum, target_of_sum};
 ghost use Rattle.estate.specs.Limits.{most_there};
-ghost use Rattle.estate.specs.Sums.{sum};
 ghost use Rattle.level.specs.Words.{held};
 
 use estate::MOST_THERE;

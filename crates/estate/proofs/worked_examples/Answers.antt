@@ -1,5 +1,4 @@
-use Rattle.std.proofs.Common.{refl}
-use Rattle.estate.specs.Sums.{sum}
+use Rattle.std.proofs.Common.{refl, sum}
 use Rattle.estate.specs.Pairs.{with_all, pairwise, none_above}
 use Rattle.estate.specs.Cents.{lacks_most, one_more, give_left}
 use Rattle.estate.specs.Order.{insert, sorted}
@@ -9,5 +8,5 @@ use Rattle.estate.proofs.Examples.{all_worked}
 use Rattle.estate.proofs.worked_examples.Goals as goal
 
 pub returns-clause-hold : goal.returns-clause-hold
-unfolding sum with_all pairwise none_above lacks_most one_more give_left insert sorted fill
+unfolding with_all pairwise none_above lacks_most one_more give_left insert sorted fill
 returns-clause-hold c = all_worked table refl

@@ -1,5 +1,4 @@
-use Rattle.std.proofs.Common.{◌≡◌, ◌+◌, drop}
-use Rattle.estate.specs.Sums.{sum}
+use Rattle.std.proofs.Common.{◌≡◌, ◌+◌, drop, sum}
 use Rattle.level.specs.Words.{held}
 use Rattle.level.proofs.Steps.{Adding}
 use Rattle.level.proofs.facts.total.Given as goal
