@@ -10,5 +10,7 @@ use Rattle.estate.proofs.WholeCents.{cents_add_up}
 use Rattle.estate.proofs.SameCents.{same_cents}
 
 pub ruleset of_two = (agrees_with_law, plain_divides, only_plain, there_is_one, closed_divides)
+
 pub ruleset compare = (just_one, more_there, gets_no_less, loses_no_less, lost_alike, who_goes)
+
 pub ruleset worked_examples = (answered_right, cents_add_up, same_cents, cents_one_answer)

@@ -1,16 +1,14 @@
 -- Rows of numbers at every place, where past the end each is 0. Assumes nothing.
-use Rattle.std.proofs.Common.{◌≡◌, ℕ, zero, suc, ◌+◌, ◌-◌, ◌*◌, ◌<◌, ◌≤◌, List, [], ◌∷◌, map, length, get_or, sym, refl, arith, sum}
+use Rattle.std.proofs.Common.{◌≡◌, ℕ, zero, suc, ◌+◌, ◌-◌, ◌*◌, ◌<◌, ◌≤◌, List, [], ◌∷◌, map, length, get_or, arith, sum}
+use Rattle.std.proofs.Math.ListN.{get_or-map}
+use Rattle.std.proofs.lemmas.Grind.{common_steps}
 use Rattle.std.proofs.lemmas.List.Sums.{sum_by-cons}
 
 pub get_or-map_zero : (f : ℕ → ℕ) → f 0 ≡ 0 → (xs : List ℕ) (i : ℕ) → get_or (map f xs) i 0 ≡ f (get_or xs i 0)
-get_or-map_zero f z [] i = sym z
-get_or-map_zero f z (x ∷ xs) zero = refl
-get_or-map_zero f z (x ∷ xs) (suc i) = get_or-map_zero f z xs i
+get_or-map_zero f z xs i = rw z at (get_or-map f xs i 0)
 
 pub inside : (xs : List ℕ) (i : ℕ) → 0 < get_or xs i 0 → i < length xs
-inside [] i h = absurd (omega arith)
-inside (x ∷ xs) zero h = omega arith
-inside (x ∷ xs) (suc i) h = omega (arith, inside xs i h)
+inside xs i h = grind (arith, common_steps)
 
 pub sum-cons : (x : ℕ) (xs : List ℕ) → sum (x ∷ xs) ≡ x + sum xs
 sum-cons = sum_by-cons (λ x. x)

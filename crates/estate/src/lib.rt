@@ -1,8 +1,7 @@
 // The limits of an estate, as its definitions have them, and the examples that its definitions are held to.
 #![tactic(auto)]
 
-ghost use Rattle.std.specs.Prelude.{◌≡◌, ◌↔◌, ◌≤◌, IsTrue, length};
-ghost use Rattle.std.specs.List.{AllByRecursion};
+ghost use Rattle.std.specs.Prelude.{◌≡◌, ◌↔◌, ◌≤◌, IsTrue, All, length};
 ghost use Rattle.estate.specs.Examples.{Worked, table};
 ghost use Rattle.estate.specs.Limits.{most_cents};
 ghost use Rattle.estate.specs.Promises.{CentsAddUp, SameCents};
@@ -30,7 +29,7 @@ pub fn cents_allowed(cents: u64) -> bool
 #[tactic(auto, using(crate::proofs::Carried::worked_examples))]
 pub fn worked_examples() -> usize
     ensures count { result ≡ length table }
-    ensures hold { AllByRecursion Worked table }
+    ensures hold { All Worked table }
     ensures answered_right { AnsweredRight }
     ensures cents_add_up { CentsAddUp }
     ensures same_cents { SameCents }
