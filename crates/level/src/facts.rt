@@ -65,7 +65,8 @@ impl Estate {
     }
 }
 
-// What is claimed by all together, or the largest number that a word holds, where it is more.
+// What is claimed by all together, or the largest number that a word holds, where it is more. A `fold` is no plainer: it
+// proves, but by a term in a proof file, and an edit of what it adds is then refused there and not here.
 pub fn total(claims: &[u64]) -> u64
     ensures { result ≡ held (sum claims.now) }
 {
