@@ -6,7 +6,7 @@ use Rattle.std.proofs.lemmas.List.Elements.{All-nil, All-cons, All-head, All-tai
 use Rattle.std.proofs.lemmas.List.Sorted.{IsNonDecreasingBy-short, IsPermutation-refl, IsPermutation-cons, IsPermutation-swap, IsPermutation-trans, length_permutation, sum_by-IsPermutation, All-permutation}
 use Rattle.estate.specs.Order.{insert, remove, sorted}
 
-pub moved_insert : (c : ℕ) (ks : List ℕ) → IsPermutation (c ∷ ks) (insert c ks)
+moved_insert : (c : ℕ) (ks : List ℕ) → IsPermutation (c ∷ ks) (insert c ks)
 unfolding insert
 moved_insert c [] = IsPermutation-refl (c ∷ [])
 moved_insert c (k ∷ ks) =
@@ -14,7 +14,7 @@ moved_insert c (k ∷ ks) =
     let turned = IsPermutation-swap (c ∷ k ∷ ks) (k ∷ c ∷ ks) 0 1 (omega arith) (omega arith) refl in
     cond_both (leb c k) _ _ (IsPermutation (c ∷ k ∷ ks)) (λ _. IsPermutation-refl _) (λ _. IsPermutation-trans _ _ _ turned behind)
 
-moved_sorted : (cs : List ℕ) → IsPermutation cs (sorted cs)
+pub moved_sorted : (cs : List ℕ) → IsPermutation cs (sorted cs)
 unfolding sorted
 moved_sorted [] = IsPermutation-refl []
 moved_sorted (c ∷ cs) =
