@@ -54,4 +54,6 @@ filled n [] rise h = omega arith
 filled n (c ∷ cs) rise h =
     let above = rising_head c cs rise in
     let rest = filled (n - c) cs (rising_tail c cs rise) (omega (arith, sum-cons c cs)) in
-    cond_both (leb n (suc (length cs) * c)) _ _ (λ v. sum_by (half v) (c ∷ cs) ≡ v.sharers * n) (λ t. at_level _ c (leb-true _ _ t) (c ∷ cs) (All-cons (λ y. c ≤ y) c cs (omega arith) above)) (λ t. let more = leb-false _ _ t in sum_by-cons _ c cs ∙ filled_more n c _ (fill (n - c) cs) (omega arith) (reaches (n - c) c cs above (omega arith)) rest)
+    let stop = λ (t : n ≤ suc (length cs) * c). at_level (record { spread = n; sharers = suc (length cs) }) c t (c ∷ cs) (All-cons (λ y. c ≤ y) c cs (omega arith) above) in
+    let on = λ (t : suc (length cs) * c < n). filled_more n c _ (fill (n - c) cs) (omega arith) (reaches (n - c) c cs above (omega arith)) rest in
+    cond_both (leb n (suc (length cs) * c)) _ _ (λ v. sum_by (half v) (c ∷ cs) ≡ v.sharers * n) (λ t. stop (leb-true _ _ t)) (λ t. sum_by-cons _ c cs ∙ on (leb-false _ _ t))
