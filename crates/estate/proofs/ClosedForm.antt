@@ -1,8 +1,8 @@
 -- The closed form divides: where little is there by what is filled in, otherwise by what is lost. Assumes nothing.
-use Rattle.std.proofs.Common.{◌≡◌, ℕ, ◌-◌, ◌*◌, ◌<◌, ◌≤◌, max, Bool, true, false, cond, List, [], ◌∷◌, map, length, get_or, refl, ap, arith}
+use Rattle.std.proofs.Common.{◌≡◌, ℕ, ◌-◌, ◌*◌, ◌<◌, ◌≤◌, max, Bool, true, false, cond, List, [], ◌∷◌, map, length, get_or, refl, ap, arith, sum}
 use Rattle.std.proofs.lemmas.List.{length-map}
+use Rattle.std.proofs.lemmas.List.Sums.{sum-map}
 use Rattle.std.proofs.lemmas.Bool.{leb-true, leb-false}
-use Rattle.estate.specs.Sums.{sum}
 use Rattle.estate.specs.Order.{sorted}
 use Rattle.estate.specs.Level.{Level, fill, scarce, target}
 use Rattle.estate.specs.Closed.{half, share, denominator, division}
@@ -11,7 +11,7 @@ use Rattle.estate.specs.Division.{Agrees}
 use Rattle.estate.proofs.Rows.{get_or-map_zero}
 use Rattle.estate.proofs.Facts.{from_facts}
 use Rattle.estate.proofs.Losses.{losses_agree}
-use Rattle.estate.proofs.Ordered.{sum-map_sorted, sum-sorted, length-sorted, rising_sorted}
+use Rattle.estate.proofs.Ordered.{sum_by-sorted, sum-sorted, length-sorted, rising_sorted}
 use Rattle.estate.proofs.Filled.{few_share, some_share, filled}
 
 losses-map : (d : ℕ) (f : ℕ → ℕ) (cs : List ℕ) → losses d cs (map f cs) ≡ map (λ c. d * c - f c) cs
@@ -37,7 +37,7 @@ module _ (e : ℕ) (cs : List ℕ) (l : 0 < length cs) (h : 2 * e ≤ sum cs) wh
   halves = record {
     parted = omega (arith, parts);
     paired = length-map cs (half v);
-    whole = omega (arith, sum-map_sorted (half v) cs, filled (2 * e) (sorted cs) (rising_sorted cs) within);
+    whole = omega (arith, sum-map (half v) cs, sum_by-sorted (half v) cs, filled (2 * e) (sorted cs) (rising_sorted cs) within);
     below = λ i. omega (arith, had i);
     plain = λ i j. omega (arith, had i, had j);
   }
@@ -62,7 +62,7 @@ module _ (e : ℕ) (cs : List ℕ) (l : 0 < length cs) (h : e ≤ sum cs) where
       rw kept at (lost (sum cs - e) cs l (omega (arith, leb-false _ _ t)))
 
 pub closed_agrees : (e : ℕ) (cs : List ℕ) → e ≤ sum cs → Agrees (denominator e cs) e cs (division e cs)
-unfolding sum sorted fill
+unfolding sorted fill
 closed_agrees e [] h = record { parted = omega arith; paired = refl; whole = omega arith; below = λ i. omega arith; plain = λ i j. omega arith }
 closed_agrees e (c ∷ cs) h = by_side e (c ∷ cs) (omega arith) h _ refl
 

@@ -1,9 +1,8 @@
 -- Divisions compared, and creditors: more there is nobody's loss, so there is just one; who claims more gets no less and
 -- loses no less. Assumes nothing.
-use Rattle.std.proofs.Common.{ℕ, ◌*◌, ◌<◌, ◌≤◌, ◌⊎◌, List, get_or, ap, ◌∙◌, inl, inr, mul-le-mul_left, arith}
-use Rattle.std.proofs.lemmas.Bool.{cases_lt}
-use Rattle.estate.specs.Division.{Agrees}
-use Rattle.estate.specs.Promises.{MoreThere, JustOne, LargerClaims}
+use Rattle.std.proofs.Common.{◌≡◌, ◌-◌, true, ℕ, ◌*◌, ◌<◌, ◌≤◌, List, get_or, ap, ◌∙◌, mul-le-mul_left, arith}
+use Rattle.estate.specs.Division.{Agrees, divides}
+use Rattle.estate.specs.Promises.{MoreThere, JustOne}
 use Rattle.estate.proofs.Rows.{sum_apart}
 use Rattle.estate.proofs.Facts.{facts}
 use Rattle.estate.proofs.Plain.{plainly_finer}
@@ -21,11 +20,7 @@ module _ (d f e g : ℕ) (cs xs ys : List ℕ) (p : Agrees d e cs xs) (q : Agree
       omega (arith, ap (λ (z : ℕ). f * z) p.whole, ap (λ (z : ℕ). d * z) q.whole, mul-le-mul_left (d * f) h, sum_apart d f ys xs (nobody_more i r) i)
 
   no_less : e ≤ g → (i : ℕ) → get_or xs i 0 * f ≤ get_or ys i 0 * d
-  no_less h i = by_order (cases_lt (d * get_or ys i 0) (f * get_or xs i 0))
-    where
-      by_order : (d * get_or ys i 0 < f * get_or xs i 0) ⊎ (f * get_or xs i 0 ≤ d * get_or ys i 0) → get_or xs i 0 * f ≤ get_or ys i 0 * d
-      by_order (inl r) = absurd (less_of_more h i r)
-      by_order (inr r) = omega arith
+  no_less h i = omega (arith, less_of_more h i)
 
 pub more_there : MoreThere
 more_there d f e g i cs xs ys h p q = no_less d f e g cs xs ys (facts d e cs xs p) (facts f g cs ys q) h i
@@ -34,8 +29,15 @@ pub just_one : JustOne
 just_one d f e i cs xs ys p q =
     omega (arith, more_there d f e e i cs xs ys (omega arith) p q, more_there f d e e i cs ys xs (omega arith) q p)
 
-pub larger_claims : LargerClaims
-larger_claims d e i j cs xs h less =
-    let p = facts d e cs xs h in
-    let more = mul-le-mul_left d less in
-    (omega (arith, p.plain i j, p.below i), omega (arith, p.plain i j, p.below i, p.below j))
+module _ (d e i j : ℕ) (cs xs : List ℕ) (h : divides d e cs xs ≡ true) (less : get_or cs i 0 ≤ get_or cs j 0) where
+  p : Agrees d e cs xs
+  p = facts d e cs xs h
+
+  claimed : d * get_or cs i 0 ≤ d * get_or cs j 0
+  claimed = mul-le-mul_left d less
+
+  pub gets_no_less : get_or xs i 0 ≤ get_or xs j 0
+  gets_no_less = omega (arith, claimed, p.plain i j, p.below i)
+
+  pub loses_no_less : d * get_or cs i 0 - get_or xs i 0 ≤ d * get_or cs j 0 - get_or xs j 0
+  loses_no_less = omega (arith, claimed, p.plain i j, p.below i, p.below j)

@@ -1,30 +1,19 @@
 -- One lemma that computes worked examples: a test that holds of each. Assumes nothing.
-use Rattle.std.proofs.Common.{◌≡◌, ℕ, Bool, true, false, ◌&&◌, eqb, List, [], ◌∷◌, refl, ap}
-use Rattle.std.specs.List.{AllByRecursion}
-use Rattle.std.proofs.lemmas.Bool.{false≢true, and_parts, eqb-true}
+use Rattle.std.proofs.Common.{◌≡◌, ℕ, Bool, true, ◌&&◌, eqb, List, refl, ap, All, bytes_eq}
+use Rattle.std.proofs.lemmas.Bool.{and_parts, eqb-true}
+use Rattle.std.proofs.lemmas.List.Elements.{All-weaker}
+use Rattle.std.proofs.lemmas.List.Sums.{AllPass-from_list_all}
+use Rattle.std.proofs.lemmas.Slice.Eq.{bytes_eq-Decides}
+use Rattle.estate.specs.Pairs.{with_all, pairwise, none_above}
 use Rattle.estate.specs.Division.{divides}
-use Rattle.estate.specs.Cents.{in_cents}
+use Rattle.estate.specs.Cents.{lacks_most, one_more, give_left, in_cents}
+use Rattle.estate.specs.Order.{insert, sorted}
+use Rattle.estate.specs.Level.{fill}
 use Rattle.estate.specs.Closed.{denominator, division}
 use Rattle.estate.specs.Answers.{parts, amounts}
 use Rattle.estate.specs.Estates.{counted, divided}
 use Rattle.estate.specs.Right.{says}
-use Rattle.estate.specs.Examples.{Example, Worked}
-
-abbrev same : List ℕ → List ℕ → Bool
-same [] [] = true
-same [] (y ∷ ys) = false
-same (x ∷ xs) [] = false
-same (x ∷ xs) (y ∷ ys) = eqb x y && same xs ys
-
-same_true : (xs ys : List ℕ) → same xs ys ≡ true → xs ≡ ys
-same_true [] [] h = refl
-same_true [] (y ∷ ys) h = absurd (false≢true h)
-same_true (x ∷ xs) [] h = absurd (false≢true h)
-same_true (x ∷ xs) (y ∷ ys) h =
-    let both = and_parts (eqb x y) (same xs ys) h in
-    let first = eqb-true x y both.0 in
-    let rest = same_true xs ys both.1 in
-    cc
+use Rattle.estate.specs.Examples.{Example, Worked, table}
 
 -- the four tests of an example
 module _ (x : Example) where
@@ -36,7 +25,7 @@ module _ (x : Example) where
 
   abbrev tests : Bool
   tests =
-      (eqb (denominator e cs) x.d && same (division e cs) x.in_parts) && (same (in_cents (denominator e cs) e (division e cs)) x.in_whole && divides x.d e cs x.in_parts)
+      (eqb (denominator e cs) x.d && bytes_eq (division e cs) x.in_parts) && (bytes_eq (in_cents (denominator e cs) e (division e cs)) x.in_whole && divides x.d e cs x.in_parts)
 
   worked : tests ≡ true → Worked x
   unfolding says
@@ -45,19 +34,13 @@ module _ (x : Example) where
       let left = and_parts _ _ halves.0 in
       let right = and_parts _ _ halves.1 in
       let d = eqb-true _ _ left.0 in
-      let xs = same_true _ _ left.1 in
+      let xs = (bytes_eq-Decides _ _).0 left.1 in
       record {
         parted = λ i. parts (d i) (xs i);
-        whole = ap amounts (same_true _ _ right.0);
+        whole = ap amounts ((bytes_eq-Decides _ _).0 right.0);
         divides = right.1;
       }
 
-abbrev pub all_tests : List Example → Bool
-all_tests [] = true
-all_tests (x ∷ xs) = tests x && all_tests xs
-
-pub all_worked : (xs : List Example) → all_tests xs ≡ true → AllByRecursion Worked xs
-all_worked [] h = tt
-all_worked (x ∷ xs) h =
-    let both = and_parts (tests x) (all_tests xs) h in
-    (worked x both.0, all_worked xs both.1)
+pub examples_hold : All Worked table
+unfolding with_all pairwise none_above lacks_most one_more give_left insert sorted fill
+examples_hold = All-weaker (λ x. tests x ≡ true) Worked worked table (AllPass-from_list_all tests table refl)

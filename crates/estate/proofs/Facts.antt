@@ -1,6 +1,7 @@
 -- A division as facts on numbers: one way in, one way out. Assumes nothing.
 use Rattle.std.proofs.Common.{◌≡◌, ℕ, zero, suc, ◌+◌, ◌-◌, ◌*◌, ◌≤◌, true, List, [], ◌∷◌, length, get_or, refl, arith}
-use Rattle.std.proofs.lemmas.Bool.{and_parts, and_from, ltb-true, lt-ltb, leb-true, le-leb, eqb-true, eq-eqb}
+use Rattle.std.proofs.lemmas.Bool.{and_parts, and_from, leb-true, le-leb, eqb-true, eq-eqb}
+use Rattle.std.proofs.lemmas.Bool.Decides.{nat_tests}
 use Rattle.estate.specs.Pairs.{with_all, pairwise, none_above}
 use Rattle.estate.specs.Division.{divides, Agrees}
 use Rattle.estate.specs.Promises.{AgreesWithLaw}
@@ -68,18 +69,14 @@ module _ (d : ℕ) where
   module _ (e : ℕ) (cs xs : List ℕ) where
     pub facts : divides d e cs xs ≡ true → Agrees d e cs xs
     facts h =
-        let halves = and_parts _ _ h in
-        let first = and_parts _ _ halves.0 in
-        let second = and_parts _ _ halves.1 in
-        let third = and_parts _ _ second.1 in
-        let paired = eqb-true _ _ first.1 in
-        let below = below_from cs xs paired third.0 in
+        let paired : length xs ≡ length cs = grind (arith, nat_tests) in
+        let below = below_from cs xs paired (grind (arith, nat_tests)) in
         record {
-          parted = ltb-true _ _ first.0;
+          parted = grind (arith, nat_tests);
           paired = paired;
-          whole = eqb-true _ _ second.0;
+          whole = grind (arith, nat_tests);
           below = below;
-          plain = λ i j. omega (arith, two_from cs xs paired below third.1 i j, below i, below j);
+          plain = λ i j. omega (arith, two_from cs xs paired below (grind (arith, nat_tests)) i j, below i, below j);
         }
 
     module _ (p : Agrees d e cs xs) where
@@ -88,7 +85,9 @@ module _ (d : ℕ) where
 
       pub from_facts : divides d e cs xs ≡ true
       from_facts =
-          and_from _ _ (and_from _ _ (lt-ltb _ _ p.parted) (eq-eqb _ _ p.paired)) (and_from _ _ (eq-eqb _ _ p.whole) (and_from _ _ (below_to cs xs p.below) (two_to cs xs p.paired two)))
+          let below = below_to cs xs p.below in
+          let each_two = two_to cs xs p.paired two in
+          grind (arith, nat_tests)
 
 pub agrees_with_law : AgreesWithLaw
 agrees_with_law d e cs xs = (facts d e cs xs, from_facts d e cs xs)

@@ -13,3 +13,4 @@ pub mod WholeCents
 pub mod SameCents
 pub mod RightAnswers
 pub mod Examples
+pub mod Carried

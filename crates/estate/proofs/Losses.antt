@@ -1,9 +1,9 @@
 -- What is lost is divided as that sum would be if it were there. Assumes nothing.
-use Rattle.std.proofs.Common.{◌≡◌, ℕ, zero, suc, ◌+◌, ◌-◌, ◌*◌, ◌≤◌, List, [], ◌∷◌, length, get_or, refl, arith}
+use Rattle.std.proofs.Common.{◌≡◌, ℕ, zero, suc, ◌+◌, ◌-◌, ◌*◌, ◌≤◌, List, [], ◌∷◌, length, get_or, refl, arith, sum}
 use native.Mathlib.Nat.{mul-sub}
-use Rattle.estate.specs.Sums.{sum}
 use Rattle.estate.specs.Division.{Agrees}
 use Rattle.estate.specs.Promises.{losses, LostAlike}
+use Rattle.estate.proofs.Rows.{sum-cons}
 use Rattle.estate.proofs.Facts.{facts, from_facts}
 
 module _ (d : ℕ) where
@@ -21,11 +21,12 @@ module _ (d : ℕ) where
   get_or-losses (c ∷ cs) (x ∷ xs) l (suc i) = get_or-losses cs xs (omega arith) i
 
   sum-losses : (cs xs : List ℕ) → length xs ≡ length cs → ((i : ℕ) → get_or xs i 0 ≤ d * get_or cs i 0) → sum (losses d cs xs) + sum xs ≡ d * sum cs
-  unfolding losses sum
+  unfolding losses
   sum-losses [] [] l b = omega arith
   sum-losses [] (x ∷ xs) l b = absurd (omega arith)
   sum-losses (c ∷ cs) [] l b = absurd (omega arith)
-  sum-losses (c ∷ cs) (x ∷ xs) l b = omega (arith, b 0, sum-losses cs xs (omega arith) (λ i. b (suc i)))
+  sum-losses (c ∷ cs) (x ∷ xs) l b =
+      simp sum-cons (omega (arith, b 0, sum-losses cs xs (omega arith) (λ i. b (suc i))))
 
   pub losses_agree : (e : ℕ) (cs xs : List ℕ) → Agrees d e cs xs → Agrees d (sum cs - e) cs (losses d cs xs)
   losses_agree e cs xs p =

@@ -1,10 +1,12 @@
 -- Claims in order after one more claim, or one that is another. Assumes nothing.
-use Rattle.std.proofs.Common.{◌≡◌, ℕ, zero, suc, ◌<◌, leb, List, [], ◌∷◌, ◌++◌, length, get_or, set, refl, ap, ◌∙◌, arith}
+use Rattle.std.proofs.Common.{◌≡◌, ℕ, zero, suc, ◌<◌, List, [], ◌∷◌, ◌++◌, length, get_or, set, refl, ap, ◌∙◌, arith}
 use Rattle.std.specs.List.{remove as removed, ContainsAt}
-use Rattle.std.proofs.lemmas.Bool.{cond_both}
 use Rattle.std.proofs.lemmas.Bool.Decides.{nat_tests}
 use Rattle.std.proofs.lemmas.List.{length-set, get_or-set_same, take-set, drop-set-lt}
+use Rattle.std.proofs.lemmas.List.Elements.{Contains-get_or, at_from_Contains}
+use Rattle.std.proofs.lemmas.List.Sorted.{Contains-permutation}
 use Rattle.estate.specs.Order.{insert, remove, sorted}
+use Rattle.estate.proofs.Ordered.{moved_sorted}
 
 -- of two claims it does not matter which is entered first
 insert_twice : (a b : ℕ) (ks : List ℕ) → insert a (insert b ks) ≡ insert b (insert a ks)
@@ -24,15 +26,8 @@ sorted_apart [] i h = absurd (omega arith)
 sorted_apart (c ∷ cs) zero h = refl
 sorted_apart (c ∷ cs) (suc i) h = ap (insert c) (sorted_apart cs i (omega arith)) ∙ insert_twice c (get_or cs i 0) (sorted (removed cs i))
 
-has_insert : (c : ℕ) (ks : List ℕ) → ContainsAt (insert c ks) c
-unfolding insert
-has_insert c [] = (0, omega arith, λ d. refl)
-has_insert c (k ∷ ks) =
-    let later = has_insert c ks in
-    cond_both (leb c k) _ _ (λ (l : List ℕ). ContainsAt l c) (λ t. (0, omega arith, λ d. refl)) (λ t. (suc later.0, omega (arith, later.1), later.2))
-
 pub has_sorted : (cs : List ℕ) (i : ℕ) → i < length cs → ContainsAt (sorted cs) (get_or cs i 0)
-has_sorted cs i h = rw (sorted_apart cs i h) (has_insert (get_or cs i 0) (sorted (removed cs i)))
+has_sorted cs i h = at_from_Contains _ _ (Contains-permutation _ _ _ (moved_sorted cs) (Contains-get_or cs i 0 h))
 
 remove-insert : (c : ℕ) (ks : List ℕ) → remove c (insert c ks) ≡ ks
 unfolding insert remove

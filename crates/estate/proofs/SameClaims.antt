@@ -1,35 +1,22 @@
 -- Claims in order are the same claims, each as often, and no others that ascend are. Assumes nothing.
-use Rattle.std.proofs.Common.{◌≡◌, ℕ, zero, suc, ◌+◌, ◌<◌, cond, eqb, List, [], ◌∷◌, map, length, get_or, sum_by, count_by, sym, refl, ap, ◌∙◌, ⊎_elim, arith}
+use Rattle.std.proofs.Common.{◌≡◌, ℕ, suc, ◌<◌, cond, eqb, List, [], ◌∷◌, length, get_or, count_by, sym, refl, ap, ⊎_elim, arith}
 use Rattle.std.specs.List.{remove}
 use Rattle.std.specs.List.Sorted.{IsNonDecreasing}
 use Rattle.std.proofs.lemmas.Bool.{cases_eq}
 use Rattle.std.proofs.lemmas.Bool.Decides.{nat_tests}
-use Rattle.std.proofs.lemmas.List.Sums.{sum_by-cons}
-use Rattle.estate.specs.Sums.{sum}
+use Rattle.std.proofs.lemmas.List.Sums.{sum_by-cons, sum_by-remove}
 use Rattle.estate.specs.Order.{insert, sorted, SameClaims}
-use Rattle.estate.proofs.Ordered.{sum-map_sorted, rising_tail}
+use Rattle.estate.proofs.Ordered.{sum_by-sorted, rising_tail}
 use Rattle.estate.proofs.Reordered.{sorted_apart}
 
 -- how often a claim is another
 abbrev times : ℕ → ℕ → ℕ
 times c k = cond (eqb c k) 1 0
 
-sum-map_by : (f : ℕ → ℕ) (cs : List ℕ) → sum (map f cs) ≡ sum_by f cs
-unfolding sum
-sum-map_by f [] = refl
-sum-map_by f (c ∷ cs) = ap (λ n. f c + n) (sum-map_by f cs) ∙ sym (sum_by-cons f c cs)
-
 pub same_sorted : (cs : List ℕ) → SameClaims (sorted cs) cs
-same_sorted cs c =
-    sym (sum-map_by (times c) (sorted cs)) ∙ sum-map_sorted (times c) cs ∙ sum-map_by (times c) cs
+same_sorted cs c = sum_by-sorted (times c) cs
 
 -- and no others that ascend are
-sum_by-apart : (f : ℕ → ℕ) (cs : List ℕ) (i : ℕ) → i < length cs → sum_by f cs ≡ f (get_or cs i 0) + sum_by f (remove cs i)
-sum_by-apart f [] i h = absurd (omega arith)
-sum_by-apart f (c ∷ cs) zero h = sum_by-cons f c cs
-sum_by-apart f (c ∷ cs) (suc i) h =
-    omega (arith, sum_by-cons f c cs, sum_by-cons f c (remove cs i), sum_by-apart f cs i (omega arith))
-
 counted_stands : (c : ℕ) (cs : List ℕ) → 0 < count_by (eqb c) cs → (i : ℕ) × (i < length cs) × (get_or cs i 0 ≡ c)
 counted_stands c [] h = absurd (omega arith)
 counted_stands c (k ∷ cs) h =
@@ -49,7 +36,7 @@ insert_least k (j ∷ ks) rise = let first = rise 0 1 0 (omega arith) (omega ari
 module _ (k : ℕ) (ks cs : List ℕ) (i : ℕ) (there : i < length cs) (is : get_or cs i 0 ≡ k) where
   same_rest : SameClaims (k ∷ ks) cs → SameClaims ks (remove cs i)
   same_rest same c =
-      omega (arith, same c, sum_by-cons (times c) k ks, sum_by-apart (times c) cs i there, ap (times c) is)
+      omega (arith, same c, sum_by-cons (times c) k ks, sum_by-remove (times c) cs i 0 there, ap (times c) is)
 
   first_back : IsNonDecreasing (k ∷ ks) → ks ≡ sorted (remove cs i) → k ∷ ks ≡ sorted cs
   first_back rise rest = let least = insert_least k ks rise in let apart = sorted_apart cs i there in cc

@@ -1,13 +1,12 @@
 -- Whole cents add up, and nobody has a cent more or less than the share. Assumes nothing.
-use Rattle.std.proofs.Common.{◌≡◌, ℕ, zero, suc, ◌+◌, ◌-◌, ◌*◌, ◌/◌, ◌<◌, ◌≤◌, Bool, true, false, cond, ltb, ◌⊎◌, List, [], ◌∷◌, length, get_or, sym, refl, ap, ◌∙◌, inl, inr, arith}
+use Rattle.std.proofs.Common.{◌≡◌, ℕ, zero, suc, ◌+◌, ◌-◌, ◌*◌, ◌/◌, ◌<◌, ◌≤◌, Bool, true, false, cond, ltb, ◌⊎◌, List, [], ◌∷◌, length, get_or, sym, refl, ap, ◌∙◌, inl, inr, arith, sum}
 use native.Mathlib.Nat.{le_of_mul-le-mul_left, lt_of_mul-lt-mul_left, zero-div}
 use Rattle.std.proofs.lemmas.List.{length-map}
 use Rattle.std.proofs.lemmas.Bool.{ltb-true, ltb-false}
-use Rattle.estate.specs.Sums.{sum}
 use Rattle.estate.specs.Cents.{downs, lacks_most, one_more, give_left, in_cents, Near}
 use Rattle.estate.specs.Promises.{CentsAddUp}
 use Rattle.estate.proofs.Facts.{facts}
-use Rattle.estate.proofs.Rows.{get_or-map_zero, inside, sum_apart}
+use Rattle.estate.proofs.Rows.{get_or-map_zero, inside, sum-cons, sum_apart}
 
 module _ (d : ℕ) where
   -- What looking further comes to: nobody lacks more than `most`, and it is still the place `was`; or the one at some j lacks
@@ -51,10 +50,10 @@ length-one_more (y ∷ ys) zero = refl
 length-one_more (y ∷ ys) (suc j) = ap suc (length-one_more ys j)
 
 sum-one_more : (ys : List ℕ) (j : ℕ) → j < length ys → sum (one_more ys (suc j)) ≡ suc (sum ys)
-unfolding one_more sum
+unfolding one_more
 sum-one_more [] j h = absurd (omega arith)
-sum-one_more (y ∷ ys) zero h = omega arith
-sum-one_more (y ∷ ys) (suc j) h = omega (arith, sum-one_more ys j (omega arith))
+sum-one_more (y ∷ ys) zero h = omega (arith, sum-cons)
+sum-one_more (y ∷ ys) (suc j) h = omega (arith, sum-cons, sum-one_more ys j (omega arith))
 
 -- with the cents ys of the shares xs in hand, n of e are left
 pub record Rounded (d n e : ℕ) (xs ys : List ℕ) : Type 0 where

@@ -1,9 +1,9 @@
 -- Who is paid a whole number of cents and goes changes nothing for the others. Assumes nothing.
-use Rattle.std.proofs.Common.{◌≡◌, ℕ, zero, suc, ◌+◌, ◌-◌, ◌*◌, List, [], ◌∷◌, length, get_or, refl, ap, arith}
+use Rattle.std.proofs.Common.{◌≡◌, ℕ, zero, suc, ◌+◌, ◌-◌, ◌*◌, List, [], ◌∷◌, length, min, get_or, sym, refl, arith, sum}
 use native.Mathlib.Nat.{mul-sub}
-use Rattle.estate.specs.Sums.{sum}
 use Rattle.estate.specs.Division.{Agrees}
 use Rattle.estate.specs.Promises.{without, WhoGoes}
+use Rattle.estate.proofs.Rows.{sum-cons}
 use Rattle.estate.proofs.Facts.{facts, from_facts}
 
 -- where the one at j stood before the one at i went
@@ -19,24 +19,22 @@ get_or-without (x ∷ xs) zero j = refl
 get_or-without (x ∷ xs) (suc i) zero = refl
 get_or-without (x ∷ xs) (suc i) (suc j) = get_or-without xs i j
 
-same_length_without : (xs ys : List ℕ) (i : ℕ) → length xs ≡ length ys → length (without xs i) ≡ length (without ys i)
+length-without : (xs : List ℕ) (i : ℕ) → length (without xs i) ≡ length xs - min 1 (length xs - i)
 unfolding without
-same_length_without [] [] i l = refl
-same_length_without [] (y ∷ ys) i l = absurd (omega arith)
-same_length_without (x ∷ xs) [] i l = absurd (omega arith)
-same_length_without (x ∷ xs) (y ∷ ys) zero l = omega arith
-same_length_without (x ∷ xs) (y ∷ ys) (suc i) l = ap suc (same_length_without xs ys i (omega arith))
+length-without [] i = omega arith
+length-without (x ∷ xs) zero = omega arith
+length-without (x ∷ xs) (suc i) = omega (arith, length-without xs i)
 
 sum-without : (xs : List ℕ) (i : ℕ) → get_or xs i 0 + sum (without xs i) ≡ sum xs
-unfolding without sum
+unfolding without
 sum-without [] i = refl
-sum-without (x ∷ xs) zero = refl
-sum-without (x ∷ xs) (suc i) = omega (arith, sum-without xs i)
+sum-without (x ∷ xs) zero = sym (sum-cons x xs)
+sum-without (x ∷ xs) (suc i) = omega (arith, sum-cons, sum-without xs i)
 
 others_agree : (d e i x : ℕ) (cs xs : List ℕ) → Agrees d e cs xs → get_or xs i 0 ≡ d * x → Agrees d (e - x) (without cs i) (without xs i)
 others_agree d e i x cs xs p paid = record {
   parted = p.parted;
-  paired = same_length_without xs cs i p.paired;
+  paired = omega (arith, p.paired, length-without xs i, length-without cs i);
   whole = omega (arith, p.whole, sum-without xs i, mul-sub d e x);
   below = λ j. simp get_or-without (p.below (stood i j));
   plain = λ j k. simp get_or-without (p.plain (stood i j) (stood i k));

@@ -1,6 +1,5 @@
 -- Whole cents from shares in d-ths of a cent. Assumes nothing.
-use Rattle.std.specs.Prelude.{◌≡◌, ℕ, zero, suc, ◌+◌, ◌-◌, ◌*◌, ◌/◌, ◌<◌, ◌≤◌, Bool, cond, List, [], ◌∷◌, map, length, nat_lt, slice_index}
-use Rattle.estate.specs.Sums.{sum}
+use Rattle.std.specs.Prelude.{◌≡◌, ℕ, zero, suc, ◌+◌, ◌-◌, ◌*◌, ◌/◌, ◌<◌, ◌≤◌, Bool, List, [], ◌∷◌, map, length, if◌then◌else◌, nat_lt, slice_index, sum}
 
 -- each share rounded down
 abbrev pub downs : ℕ → List ℕ → List ℕ
@@ -13,7 +12,7 @@ lacks_most d [] ys i most at = at
 lacks_most d (x ∷ xs) [] i most at = at
 lacks_most d (x ∷ xs) (y ∷ ys) i most at =
     let more : Bool = nat_lt most (x - d * y) in
-    lacks_most d xs ys (suc i) (cond more (x - d * y) most) (cond more (suc i) at)
+    lacks_most d xs ys (suc i) (if more then x - d * y else most) (if more then suc i else at)
 
 -- one cent more for the one at a place counted from 1
 unfoldable pub one_more : List ℕ → ℕ → List ℕ

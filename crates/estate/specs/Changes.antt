@@ -1,5 +1,5 @@
 -- What a call makes of an estate. Assumes nothing.
-use Rattle.std.specs.Prelude.{◌+◌, cond, List, [], ◌∷◌, ◌++◌, ◌==◌, slice_set}
+use Rattle.std.specs.Prelude.{◌+◌, List, [], ◌∷◌, ◌++◌, if◌then◌else◌, ◌==◌, slice_set}
 use Rattle.estate.specs.Calls.{Call, claims, proves, comes, shares, cents, garbled}
 use Rattle.estate.specs.Limits.{Limits}
 use Rattle.estate.specs.Estates.{Estate, with_there, with_claimed}
@@ -15,7 +15,7 @@ changed e (garbled n) = e
 
 -- a call that is turned away leaves the estate as it was
 abbrev pub after : Limits → Estate → Call → Estate
-after l e c = cond (turned l e c == 0) (changed e c) e
+after l e c = if turned l e c == 0 then changed e c else e
 
 -- the estate after a row of calls
 unfoldable pub ran : Limits → Estate → List Call → Estate

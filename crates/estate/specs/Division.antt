@@ -1,6 +1,5 @@
 -- What a division is. It looks at each two creditors and at the sum, and has no way to find one. Assumes nothing.
-use Rattle.std.specs.Prelude.{◌≡◌, ℕ, ◌+◌, ◌*◌, ◌<◌, ◌≤◌, Bool, ◌&&◌, List, length, ◌==◌, nat_lt, slice_index}
-use Rattle.estate.specs.Sums.{sum}
+use Rattle.std.specs.Prelude.{◌≡◌, ℕ, ◌+◌, ◌*◌, ◌<◌, ◌≤◌, Bool, ◌&&◌, List, length, ◌==◌, nat_lt, slice_index, sum}
 use Rattle.estate.specs.Two.{plainly}
 use Rattle.estate.specs.Pairs.{none_above, pairwise}
 

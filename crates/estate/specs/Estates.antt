@@ -1,8 +1,6 @@
 -- An estate: what is there, and what is claimed. What others say of an estate they say by the words below, not by its
 -- fields, so that a wider estate changes these words alone. Assumes nothing.
-use Rattle.std.specs.Prelude.{◌≡◌, ℕ, ◌≤◌, min, true, List, [], length}
-use Rattle.std.specs.List.{AllByRecursion}
-use Rattle.estate.specs.Sums.{sum}
+use Rattle.std.specs.Prelude.{◌≡◌, ℕ, ◌≤◌, min, true, List, [], length, All, sum}
 use Rattle.estate.specs.Division.{divides}
 use Rattle.estate.specs.Limits.{most_creditors, most_cents, most_there}
 
@@ -38,5 +36,5 @@ Shared e d xs = divides d (divided e) (counted e) xs ≡ true
 -- an estate within the limits
 pub record Within (e : Estate) : Type 0 where
   pub few : length (counted e) ≤ most_creditors
-  pub each : AllByRecursion (λ c. c ≤ most_cents) (counted e)
+  pub each : All (λ c. c ≤ most_cents) (counted e)
   pub there : amount e ≤ most_there

@@ -1,6 +1,5 @@
 -- The level: how much each creditor gets, or loses, at most. One fraction decides the whole division. Assumes nothing.
-use Rattle.std.specs.Prelude.{ℕ, suc, ◌-◌, ◌*◌, Bool, cond, List, [], ◌∷◌, length, nat_le}
-use Rattle.estate.specs.Sums.{sum}
+use Rattle.std.specs.Prelude.{ℕ, suc, ◌-◌, ◌*◌, Bool, List, [], ◌∷◌, length, if◌then◌else◌, nat_le, sum}
 use Rattle.estate.specs.Order.{sorted}
 
 -- the level is the fraction spread / sharers: what is spread among the creditors whose claims reach it
@@ -13,15 +12,23 @@ pub record Level : Type 0 where
 unfoldable pub fill : ℕ → List ℕ → Level
 fill n [] = record { spread = n; sharers = 0 }
 fill n (c ∷ cs) =
-    cond (nat_le n (suc (length cs) * c)) (record { spread = n; sharers = suc (length cs) }) (fill (n - c) cs)
+    if nat_le n (suc (length cs) * c) then record { spread = n; sharers = suc (length cs) } else fill (n - c) cs
 
--- at most half of what is claimed is there: everybody gets at most half of its claim; otherwise everybody loses at most half
-abbrev pub scarce : ℕ → List ℕ → Bool
-scarce e cs = nat_le (2 * e) (sum cs)
+-- Which side it is, and what is filled in, told from the sum s of the claims alone.
+
+-- e cents are at most half of the sum: everybody gets at most half of its claim; otherwise everybody loses at most half
+abbrev pub scarce_of_sum : ℕ → ℕ → Bool
+scarce_of_sum e s = nat_le (2 * e) s
 
 -- twice what is got or, where more than half is there, twice what is lost
+abbrev pub target_of_sum : ℕ → ℕ → ℕ
+target_of_sum e s = if scarce_of_sum e s then 2 * e else 2 * (s - e)
+
+abbrev pub scarce : ℕ → List ℕ → Bool
+scarce e cs = scarce_of_sum e (sum cs)
+
 abbrev pub target : ℕ → List ℕ → ℕ
-target e cs = cond (scarce e cs) (2 * e) (2 * (sum cs - e))
+target e cs = target_of_sum e (sum cs)
 
 abbrev pub level : ℕ → List ℕ → Level
 level e cs = fill (target e cs) (sorted cs)

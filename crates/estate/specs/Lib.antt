@@ -1,4 +1,3 @@
-pub mod Sums
 pub mod Two
 pub mod Pairs
 pub mod Division

@@ -1,15 +1,15 @@
 -- Claims in the order of what is claimed. Only values are kept in order, so equal claims need no places. Assumes nothing.
-use Rattle.std.specs.Prelude.{◌≡◌, ℕ, cond, List, [], ◌∷◌, count_by, ◌==◌, nat_eq, nat_le}
+use Rattle.std.specs.Prelude.{◌≡◌, ℕ, List, [], ◌∷◌, count_by, if◌then◌else◌, ◌==◌, nat_eq, nat_le}
 
 -- before the first that is not smaller
 unfoldable pub insert : ℕ → List ℕ → List ℕ
 insert c [] = c ∷ []
-insert c (k ∷ ks) = cond (nat_le c k) (c ∷ k ∷ ks) (k ∷ insert c ks)
+insert c (k ∷ ks) = if nat_le c k then c ∷ k ∷ ks else k ∷ insert c ks
 
 -- the first that is equal; where there is none, everything stays
 unfoldable pub remove : ℕ → List ℕ → List ℕ
 remove c [] = []
-remove c (k ∷ ks) = cond (c == k) ks (k ∷ remove c ks)
+remove c (k ∷ ks) = if c == k then ks else k ∷ remove c ks
 
 unfoldable pub sorted : List ℕ → List ℕ
 sorted [] = []

@@ -1,6 +1,5 @@
 -- What is true of every division. Each is named by the contract of a function of this crate. Assumes nothing.
-use Rattle.std.specs.Prelude.{◌≡◌, ℕ, zero, suc, ◌+◌, ◌-◌, ◌*◌, ◌≤◌, max, true, List, [], ◌∷◌, length, Decides, slice_index}
-use Rattle.estate.specs.Sums.{sum}
+use Rattle.std.specs.Prelude.{◌≡◌, ℕ, zero, suc, ◌+◌, ◌-◌, ◌*◌, ◌≤◌, max, true, List, [], ◌∷◌, length, IsTrue, ◌↔◌, slice_index, sum}
 use Rattle.estate.specs.Two.{plainly}
 use Rattle.estate.specs.Division.{divides, Agrees}
 use Rattle.estate.specs.Cents.{in_cents, Pays}
@@ -8,7 +7,7 @@ use Rattle.estate.specs.Closed.{denominator, division}
 
 -- a division is what agrees with the plain law between each two
 abbrev pub AgreesWithLaw : Type 0
-AgreesWithLaw = (d e : ℕ) (cs xs : List ℕ) → Decides (divides d e cs xs) (Agrees d e cs xs)
+AgreesWithLaw = (d e : ℕ) (cs xs : List ℕ) → IsTrue (divides d e cs xs) ↔ Agrees d e cs xs
 
 -- between two the plain law divides
 abbrev pub PlainDivides : Type 0

@@ -1,5 +1,5 @@
 -- Which calls are turned away, by which number and at which place. Assumes nothing.
-use Rattle.std.specs.Prelude.{ℕ, ◌+◌, Bool, false, cond, List, [], ◌∷◌, length, ◌==◌, nat_le, nat_lt}
+use Rattle.std.specs.Prelude.{ℕ, ◌+◌, Bool, false, List, [], ◌∷◌, length, if◌then◌else◌, ◌==◌, nat_le, nat_lt}
 use Rattle.estate.specs.Calls.{Call, claims, proves, comes, shares, cents, garbled}
 use Rattle.estate.specs.Limits.{Limits, most_cents, most_there}
 use Rattle.estate.specs.Estates.{Estate, amount, counted}
@@ -41,7 +41,7 @@ checks l e (garbled n) = check false unreadable ∷ []
 -- the first refusal of a row of checks, or 0
 abbrev pub first_refusal : List Check → ℕ
 first_refusal [] = 0
-first_refusal (k ∷ ks) = cond k.holds (first_refusal ks) k.refusal
+first_refusal (k ∷ ks) = if k.holds then first_refusal ks else k.refusal
 
 -- the number by which a call is turned away, or 0
 abbrev pub turned : Limits → Estate → Call → ℕ
@@ -50,7 +50,7 @@ turned l e c = first_refusal (checks l e c)
 -- the place in a call that is turned away by a number: of prove's two numbers the cents are the second
 abbrev pub place : Call → ℕ → ℕ
 place (claims c) n = 0
-place (proves i c) n = cond (n == too_large) 1 0
+place (proves i c) n = if n == too_large then 1 else 0
 place (comes x) n = 0
 place shares n = 0
 place cents n = 0

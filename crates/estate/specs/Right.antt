@@ -1,5 +1,5 @@
 -- Which answers are right. Assumes nothing.
-use Rattle.std.specs.Prelude.{◌≡◌, ℕ, suc, ◌+◌, ◌*◌, ◌≤◌, Bool, true, false, cond, List, length, ◌==◌}
+use Rattle.std.specs.Prelude.{◌≡◌, ℕ, suc, ◌+◌, ◌*◌, ◌≤◌, Bool, true, false, List, length, if◌then◌else◌, ◌==◌}
 use Rattle.estate.specs.Cents.{in_cents}
 use Rattle.estate.specs.Closed.{denominator, division}
 use Rattle.estate.specs.Calls.{Call, claims, proves, comes, shares, cents, garbled}
@@ -37,7 +37,7 @@ says e cents =
 says e (garbled n) = refused unreadable n
 
 abbrev pub answered : Limits → Estate → Call → Answer
-answered l e c = cond (turned l e c == 0) (says e c) (refused (turned l e c) (place c (turned l e c)))
+answered l e c = if turned l e c == 0 then says e c else refused (turned l e c) (place c (turned l e c))
 
 -- the answer that is given is right
 abbrev pub AnsweredRight : Type 0

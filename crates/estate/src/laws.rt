@@ -7,6 +7,7 @@ ghost use Rattle.estate.specs.Promises.{AgreesWithLaw, PlainDivides, OnlyPlain, 
 use std::cmp::Ordering;
 
 // What two claims have of what is there, in half cents, by the plain law.
+#[tactic(auto, using(crate::proofs::Carried::of_two))]
 pub fn of_two(there: u64, claim: u64, other: u64) -> (u128, u128)
     ensures value { result ≡ (plainly there claim other, plainly there other claim) }
     ensures agrees_with_law { AgreesWithLaw }
@@ -32,6 +33,7 @@ fn half_cents(there: u64, claim: u64, other: u64) -> u128
 }
 
 // Whether x of d parts of a cent are less than y of f parts, as much or more.
+#[tactic(auto, using(crate::proofs::Carried::compare))]
 pub fn compare(x: u64, d: u64, y: u64, f: u64) -> Ordering
     ensures value { MatchOrdering result (x * f < y * d) (x * f ≡ y * d) (y * d < x * f) }
     ensures just_one { JustOne }

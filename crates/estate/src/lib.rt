@@ -1,8 +1,7 @@
 // The limits of an estate, as its definitions have them, and the examples that its definitions are held to.
 #![tactic(auto)]
 
-ghost use Rattle.std.specs.Prelude.{◌≡◌, length, nat_le};
-ghost use Rattle.std.specs.List.{AllByRecursion};
+ghost use Rattle.std.specs.Prelude.{◌≡◌, ◌↔◌, ◌≤◌, IsTrue, All, length};
 ghost use Rattle.estate.specs.Examples.{Worked, table};
 ghost use Rattle.estate.specs.Limits.{most_cents};
 ghost use Rattle.estate.specs.Promises.{CentsAddUp, SameCents};
@@ -20,16 +19,17 @@ pub const MOST_THERE: u64 = 1_000_000_000_000;
 
 // Whether one claim may be so many cents, and so many may come at once.
 pub fn cents_allowed(cents: u64) -> bool
-    ensures { result ≡ nat_le cents most_cents }
+    ensures { IsTrue result ↔ (cents ≤ most_cents) }
 {
     cents <= MOST_CENTS
 }
 
 // How many worked examples there are. The definitions give each its shares and its cents. What they answer is right, and
 // whole cents are what they should be.
+#[tactic(auto, using(crate::proofs::Carried::worked_examples))]
 pub fn worked_examples() -> usize
     ensures count { result ≡ length table }
-    ensures hold { AllByRecursion Worked table }
+    ensures hold { All Worked table }
     ensures answered_right { AnsweredRight }
     ensures cents_add_up { CentsAddUp }
     ensures same_cents { SameCents }

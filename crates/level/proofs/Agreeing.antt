@@ -1,8 +1,8 @@
 -- The terms that are found are those of the closed form. Assumes nothing.
-use Rattle.std.proofs.Common.{◌≡◌, ℕ, ◌*◌, ◌≤◌, max, Bool, List, map, Some, ap, ◌∙◌, mul-le-mul_right, mul-le-mul, arith}
+use Rattle.std.proofs.Common.{◌≡◌, ℕ, ◌*◌, ◌≤◌, max, Bool, List, map, Some, ap, ◌∙◌, mul-le-mul_right, mul-le-mul, arith, sum}
 use Rattle.std.specs.List.Sorted.{IsNonDecreasing}
 use Rattle.std.proofs.lemmas.Bool.Decides.{nat_tests}
-use Rattle.estate.specs.Sums.{sum}
+use Rattle.std.proofs.lemmas.List.Sums.{sum-map, sum_by-le}
 use Rattle.estate.specs.Order.{sorted, SameClaims}
 use Rattle.estate.specs.Limits.{most_creditors, most_cents, most_claimed}
 use Rattle.estate.specs.Level.{Level, level, scarce, target}
@@ -12,7 +12,6 @@ use Rattle.estate.proofs.Ordered.{sum-sorted, length-sorted}
 use Rattle.estate.proofs.SameClaims.{only_sorted}
 use Rattle.estate.proofs.Filled.{few_share, some_share, spread_below, filled}
 use Rattle.estate.proofs.ClosedForm.{closed_divides}
-use Rattle.estate.proofs.Rows.{sum_below}
 use Rattle.level.specs.Sides.{gains}
 use Rattle.level.specs.Levels.{level_of}
 use Rattle.level.specs.Terms.{parts_of, share_by, Found}
@@ -23,7 +22,7 @@ pub level_fills : LevelFills
 level_fills n ks f h rise is =
     let sharers = ap (λ (v : Level). v.sharers) is in
     record {
-      whole = ap (λ (v : Level). sum (map (half v) ks)) is ∙ rw sharers (filled n ks rise h);
+      whole = ap (λ (v : Level). sum (map (half v) ks)) is ∙ sum-map _ ks ∙ rw sharers (filled n ks rise h);
       few = omega (arith, sharers, few_share n ks);
       some = λ l. omega (arith, sharers, some_share n ks l h);
     }
@@ -62,7 +61,7 @@ module _ (e : Estate) (ks : List ℕ) (t : Terms) (same : SameClaims ks (counted
 
     claimed : sum (counted e) ≤ most_claimed
     claimed =
-        omega (arith, sum_below most_cents (counted e) w.each, mul-le-mul_right most_cents w.few)
+        omega (arith, sum_by-le (λ x. x) most_cents (counted e) w.each, mul-le-mul_right most_cents w.few)
 
     aimed : aim ≤ sum (counted e)
     aimed = grind (arith, nat_tests)

@@ -1,7 +1,6 @@
 -- What is true of the terms that are found. The contract of `terms_of` names each. Assumes nothing.
-use Rattle.std.specs.Prelude.{◌≡◌, ℕ, ◌*◌, ◌^◌, ◌<◌, ◌≤◌, List, map, length, Some}
+use Rattle.std.specs.Prelude.{◌≡◌, ℕ, ◌*◌, ◌^◌, ◌<◌, ◌≤◌, List, map, length, Some, sum}
 use Rattle.std.specs.List.Sorted.{IsNonDecreasing}
-use Rattle.estate.specs.Sums.{sum}
 use Rattle.estate.specs.Order.{SameClaims}
 use Rattle.estate.specs.Limits.{most_creditors, most_cents, most_there, most_claimed}
 use Rattle.estate.specs.Level.{target}

@@ -1,9 +1,9 @@
 -- The terms of a division. Assumes nothing.
-use Rattle.std.specs.Prelude.{◌≡◌, ℕ, ◌*◌, ◌<◌, ◌≤◌, min, max, List, Some, None, Option}
-use Rattle.estate.specs.Sums.{sum}
+use Rattle.std.specs.Prelude.{◌≡◌, ℕ, ◌*◌, ◌<◌, ◌≤◌, min, max, List, Some, None, Option, sum}
 use Rattle.estate.specs.Limits.{most_there}
+use Rattle.estate.specs.Level.{scarce_of_sum, target_of_sum}
 use Rattle.estate.specs.Closed.{share}
-use Rattle.level.specs.Sides.{gains, scarce_of_sum, target_of_sum}
+use Rattle.level.specs.Sides.{gains}
 use Rattle.level.specs.Levels.{level_of, Fills}
 use Rattle.level.specs.declared.closed.Terms.{Terms}
 

@@ -1,6 +1,7 @@
 // The terms of a division: all that the share of a creditor depends on, besides its own claim.
-ghost use Rattle.std.specs.Prelude.{◌≡◌, min};
+ghost use Rattle.std.specs.Prelude.{◌≡◌};
 ghost use Rattle.level.specs.Laws.{LevelFills, TermsRight, TermsSmall};
+ghost use Rattle.level.specs.Sides.{divided_of};
 ghost use Rattle.level.specs.Terms.{parts_of, Agreed, Found};
 ghost use Rattle.level.specs.Words.{held};
 
@@ -27,7 +28,7 @@ impl Terms {
 impl Estate {
     // The terms on which it is divided, among claims in ascending order.
     fn terms(self, claims: &[u64]) -> Terms
-        ensures { Agreed (min self.there self.claimed) self.claimed claims.now result }
+        ensures { Agreed (divided_of self) self.claimed claims.now result }
     {
         Terms {
             side: self.side(),
@@ -43,6 +44,5 @@ pub fn terms_of(there: u64, claims: &[u64]) -> Option<Terms>
     ensures terms_right { TermsRight }
     ensures terms_small { TermsSmall }
 {
-    let estate = Estate::new(there, total(claims))?;
-    Some(estate.terms(claims))
+    Estate::new(there, total(claims)).map(|estate| estate.terms(claims))
 }

@@ -1,8 +1,7 @@
 // What is known of an estate without looking at each claim.
-ghost use Rattle.std.specs.Prelude.{◌≡◌, ◌<◌, ◌≤◌, min, MatchOption};
+ghost use Rattle.std.specs.Prelude.{◌≡◌, ◌<◌, ◌≤◌, MatchOption, sum};
+ghost use Rattle.estate.specs.Level.{scarce_of_sum, target_of_sum};
 ghost use Rattle.estate.specs.Limits.{most_there};
-ghost use Rattle.estate.specs.Sums.{sum};
-ghost use Rattle.level.specs.Sides.{gains, scarce_of_sum, target_of_sum};
 ghost use Rattle.level.specs.Words.{held};
 
 use estate::MOST_THERE;
@@ -25,6 +24,8 @@ pub struct Estate {
 }
 
 impl Estate {
+    ghost use Rattle.level.specs.Sides.{divided_of, gains};
+
     // None where more is there than may be.
     pub fn new(there: u64, claimed: u64) -> Option<Self>
         ensures { MatchOption result (most_there < there) (λ e. (e.there ≡ there) × (e.claimed ≡ claimed)) }
@@ -37,14 +38,14 @@ impl Estate {
 
     // What is divided: what is there, or all that is claimed if that is less.
     pub fn divided(self) -> u64
-        ensures { result ≡ min self.there self.claimed }
+        ensures { result ≡ divided_of self }
     {
         self.there.min(self.claimed)
     }
 
     // Whether what each gets is levelled, or what each loses.
     pub fn side(self) -> Side
-        ensures { gains result ≡ scarce_of_sum (min self.there self.claimed) self.claimed }
+        ensures { gains result ≡ scarce_of_sum (divided_of self) self.claimed }
     {
         if 2 * self.divided() <= self.claimed {
             Side::Gains
@@ -55,7 +56,7 @@ impl Estate {
 
     // Twice what all get or, on the other side, twice what all lose.
     pub fn target(self) -> u64
-        ensures { result ≡ target_of_sum (min self.there self.claimed) self.claimed }
+        ensures { result ≡ target_of_sum (divided_of self) self.claimed }
     {
         match self.side() {
             Side::Gains => 2 * self.divided(),
@@ -64,7 +65,8 @@ impl Estate {
     }
 }
 
-// What is claimed by all together, or the largest number that a word holds, where it is more.
+// What is claimed by all together, or the largest number that a word holds, where it is more. A `fold` is no plainer: it
+// proves, but by a term in a proof file, and an edit of what it adds is then refused there and not here.
 pub fn total(claims: &[u64]) -> u64
     ensures { result ≡ held (sum claims.now) }
 {

@@ -11,12 +11,14 @@ pub struct Fraction {
 
 // Fills the target into claims in ascending order, each up to the level, and answers the level. Where the target is more
 // than all that is claimed nobody shares what is left, and the denominator is 0.
+#[tactic(auto, unfolding(estate::specs::Level::fill))]
 pub fn fill(claims: &[u64], target: u64) -> Fraction
     ensures { Fills claims.now target result }
 {
     let mut left = target;
-    for (i, claim) in claims.iter().enumerate() {
-        let sharers = (claims.len() - i) as u64;
+    let mut rest = claims;
+    while let Some((claim, others)) = rest.split_first() {
+        let sharers = rest.len() as u64;
         if u128::from(left) <= u128::from(sharers) * u128::from(*claim) {
             return Fraction {
                 numerator: left,
@@ -24,6 +26,7 @@ pub fn fill(claims: &[u64], target: u64) -> Fraction
             };
         }
         left -= *claim;
+        rest = others;
     }
     Fraction {
         numerator: left,

@@ -1,7 +1,9 @@
-use Rattle.std.proofs.Common.{◌≡◌, drop}
+use Rattle.std.proofs.Common.{◌≡◌, length}
 use Rattle.estate.specs.Level.{fill}
-use Rattle.level.proofs.Steps.{Filling}
 use Rattle.level.proofs.filling.fill.Given as goal
 
-abbrev pub invariant-loop-i : goal.invariant-loop-i
-invariant-loop-i l = Filling l.claims × (fill l.left (drop l.i l.claims) ≡ fill l.target l.claims)
+abbrev pub invariant-loop-claim : goal.invariant-loop-claim
+invariant-loop-claim l = fill l.left l.rest ≡ fill l.target l.claims
+
+abbrev pub decreases-loop-claim : goal.decreases-loop-claim
+decreases-loop-claim l = length l.rest
