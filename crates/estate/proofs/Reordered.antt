@@ -1,9 +1,9 @@
 -- Claims in order after one more claim, or one that is another. Assumes nothing.
 use Rattle.std.proofs.Common.{◌≡◌, ℕ, zero, suc, ◌<◌, List, [], ◌∷◌, ◌++◌, length, get_or, set, refl, ap, ◌∙◌, arith}
-use Rattle.std.specs.List.{remove as removed, ContainsAt}
+use Rattle.std.specs.List.{remove as removed, Contains}
 use Rattle.std.proofs.lemmas.Bool.Decides.{nat_tests}
 use Rattle.std.proofs.lemmas.List.{length-set, get_or-set_same, take-set, drop-set-lt}
-use Rattle.std.proofs.lemmas.List.Elements.{Contains-get_or, at_from_Contains}
+use Rattle.std.proofs.lemmas.List.Elements.{Contains-get_or}
 use Rattle.std.proofs.lemmas.List.Sorted.{Contains-permutation}
 use Rattle.estate.specs.Order.{insert, remove, sorted}
 use Rattle.estate.proofs.Ordered.{moved_sorted}
@@ -26,8 +26,8 @@ sorted_apart [] i h = absurd (omega arith)
 sorted_apart (c ∷ cs) zero h = refl
 sorted_apart (c ∷ cs) (suc i) h = ap (insert c) (sorted_apart cs i (omega arith)) ∙ insert_twice c (get_or cs i 0) (sorted (removed cs i))
 
-pub has_sorted : (cs : List ℕ) (i : ℕ) → i < length cs → ContainsAt (sorted cs) (get_or cs i 0)
-has_sorted cs i h = at_from_Contains _ _ (Contains-permutation _ _ _ (moved_sorted cs) (Contains-get_or cs i 0 h))
+pub has_sorted : (cs : List ℕ) (i : ℕ) → i < length cs → Contains (sorted cs) (get_or cs i 0)
+has_sorted cs i h = Contains-permutation _ _ _ (moved_sorted cs) (Contains-get_or cs i 0 h)
 
 remove-insert : (c : ℕ) (ks : List ℕ) → remove c (insert c ks) ≡ ks
 unfolding insert remove

@@ -88,4 +88,4 @@ never_out_of_order i ws cs room m =
     let came : old ≡ get_or cs i 0 = grind (arith, places) in
     let long = kept_long ws cs room in
     let has = has_sorted cs i there in
-    not_in (middle ws) (length cs) old (kept ws cs) (omega arith) (rw (kept_middle ws cs room) at m.2) (rw here (rising_sorted cs)) (rw (here, came) (has.0, has.1, has.2 _))
+    not_in (middle ws) (length cs) old (kept ws cs) (omega arith) (rw (kept_middle ws cs room) at m.2) (rw here (rising_sorted cs)) (rw (here, came) has)
