@@ -32,23 +32,39 @@ fn half_cents(there: u64, claim: u64, other: u64) -> u128
     2 * u128::from(left) + u128::from(contested)
 }
 
-// Whether x of d parts of a cent are less than y of f parts, as much or more.
-#[tactic(auto, using(crate::proofs::Carried::compare))]
-pub fn compare(x: u64, d: u64, y: u64, f: u64) -> Ordering
-    ensures value { MatchOrdering result (x * f < y * d) (x * f ≡ y * d) (y * d < x * f) }
-    ensures just_one { JustOne }
-    ensures more_there { MoreThere }
-    ensures larger_claims { LargerClaims }
-    ensures lost_alike { LostAlike }
-    ensures who_goes { WhoGoes }
-{
-    let (first, second) = in_common_parts(x, d, y, f);
-    first.cmp(&second)
+// A share: so many of the parts of which a cent has `of`.
+#[derive(Clone, Copy, Debug)]
+pub struct Share {
+    pub parts: u64,
+    pub of: u64,
 }
 
-// x of d parts and y of f parts, both in parts of which a cent has d times f.
-fn in_common_parts(x: u64, d: u64, y: u64, f: u64) -> (u128, u128)
-    ensures { result ≡ (x * f, y * d) }
-{
-    (u128::from(x) * u128::from(f), u128::from(y) * u128::from(d))
+impl Share {
+    // Whether it is less than another, as much or more. It is no `Ord`: where `of` is 0 there is no order.
+    #[tactic(auto, using(crate::proofs::Carried::compare))]
+    pub fn compare(self, other: Share) -> Ordering
+        ensures value { MatchOrdering
+            result
+            (self.parts * other.of < other.parts * self.of)
+            (self.parts * other.of ≡ other.parts * self.of)
+            (other.parts * self.of < self.parts * other.of) }
+        ensures just_one { JustOne }
+        ensures more_there { MoreThere }
+        ensures larger_claims { LargerClaims }
+        ensures lost_alike { LostAlike }
+        ensures who_goes { WhoGoes }
+    {
+        let (first, second) = self.in_common_parts(other);
+        first.cmp(&second)
+    }
+
+    // Both, in parts of which a cent has as many as their parts multiplied.
+    fn in_common_parts(self, other: Share) -> (u128, u128)
+        ensures { result ≡ (self.parts * other.of, other.parts * self.of) }
+    {
+        (
+            u128::from(self.parts) * u128::from(other.of),
+            u128::from(other.parts) * u128::from(self.of),
+        )
+    }
 }

@@ -9,7 +9,7 @@ ghost use Rattle.estate.specs.Right.{AnsweredRight, CentsOneAnswer};
 
 mod laws;
 
-pub use laws::{compare, of_two};
+pub use laws::{Share, of_two};
 
 // The most cents that one claim may be, and that may come at once.
 pub const MOST_CENTS: u64 = 1_000_000_000;

@@ -1,5 +1,5 @@
 // What is known of an estate without looking at each claim.
-ghost use Rattle.std.specs.Prelude.{◌≡◌, ◌<◌, ◌≤◌, MatchOption, sum};
+ghost use Rattle.std.specs.Prelude.{◌≡◌, ◌<◌, ◌≤◌, IfSome, IfNone, sum};
 ghost use Rattle.estate.specs.Level.{scarce_of_sum, target_of_sum};
 ghost use Rattle.estate.specs.Limits.{most_there};
 ghost use Rattle.level.specs.Words.{held};
@@ -28,7 +28,8 @@ impl Estate {
 
     // None where more is there than may be.
     pub fn new(there: u64, claimed: u64) -> Option<Self>
-        ensures { MatchOption result (most_there < there) (λ e. (e.there ≡ there) × (e.claimed ≡ claimed)) }
+        ensures none { IfNone result (most_there < there) }
+        ensures some { IfSome result (λ e. (e.there ≡ there) × (e.claimed ≡ claimed)) }
     {
         if there > MOST_THERE {
             return None;

@@ -87,3 +87,6 @@ decoded items (Err OutOfMemory) bs ns whole h e g = tt
 pub answer_back : AnswerBack
 answer_back a None s h = absurd (h a s refl)
 answer_back a (Some b) s h = ap Some (one_answer b a h.0 s h.1)
+
+-- the theorems that `Answer::decode` carries
+pub ruleset decode = (one_answer, answer_back)

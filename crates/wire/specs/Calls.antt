@@ -1,5 +1,5 @@
 -- Calls as rows of bytes. Assumes nothing.
-use Rattle.std.specs.Prelude.{ℕ, ◌<◌, min, cond, List, [], ◌∷◌, ◌==◌, nat_lt}
+use Rattle.std.specs.Prelude.{ℕ, ◌<◌, min, if◌then◌else◌, List, [], ◌∷◌, ◌==◌, nat_lt}
 use Rattle.estate.specs.Calls.{Call, claims, proves, comes, shares, cents, garbled}
 use Rattle.wire.specs.Bytes.{Fitting, row}
 
@@ -30,7 +30,7 @@ pub record Sendable (c : Call) : Type 0 where
 
 -- how many bytes a call of kind k has
 abbrev pub extent : ℕ → ℕ
-extent k = cond (k == 1) 17 (cond (nat_lt k 3) 9 1)
+extent k = if k == 1 then 17 else (if nat_lt k 3 then 9 else 1)
 
 -- A call as the desk holds it, with a place of 32 bits. Every place past the last of these is held as the last: no desk has
 -- so many claims, so none of them is there.

@@ -1,5 +1,5 @@
 -- What a row of bytes is as a call, and where it ceases to be one. Assumes nothing.
-use Rattle.std.specs.Prelude.{◌≡◌, ℕ, suc, ◌<◌, ◌≤◌, min, cond, ◌||◌, List, [], ◌++◌, length, take, drop, Some, None, Option, ◌==◌, ◌≢◌, nat_lt, slice_index}
+use Rattle.std.specs.Prelude.{◌≡◌, ℕ, suc, ◌<◌, ◌≤◌, min, if◌then◌else◌, ◌||◌, List, [], ◌++◌, length, take, drop, Some, None, Option, ◌==◌, ◌≢◌, nat_lt, slice_index}
 use Rattle.estate.specs.Calls.{Call, claims, proves, comes, shares, cents, garbled}
 use Rattle.wire.specs.Bytes.{number_at}
 use Rattle.wire.specs.Calls.{call_row, Sendable, extent, narrow}
@@ -7,13 +7,19 @@ use Rattle.wire.specs.Calls.{call_row, Sendable, extent, narrow}
 -- the call of kind k, at most 4, that these bytes are
 abbrev pub call_at : ℕ → List ℕ → Call
 call_at k bs =
-    cond (k == 0) (claims (number_at bs 1)) (cond (k == 1) (proves (number_at bs 1) (number_at bs 9)) (cond (k == 2) (comes (number_at bs 1)) (cond (k == 3) shares cents)))
+    if k == 0 then claims (number_at bs 1)
+    else (if k == 1 then proves (number_at bs 1) (number_at bs 9)
+    else (if k == 2 then comes (number_at bs 1)
+    else (if k == 3 then shares else cents)))
 
 -- What bytes are, of which the first is k. The first byte that does not fit: of no bytes and of an unknown kind the first;
 -- of a call that is too short the one after its last; of one that is too long the first too many.
 abbrev pub read_as : ℕ → List ℕ → Call
 read_as k bs =
-    cond (length bs == 0 || nat_lt 4 k) (garbled 0) (cond (nat_lt (length bs) (extent k)) (garbled (length bs)) (cond (nat_lt (extent k) (length bs)) (garbled (extent k)) (call_at k bs)))
+    if length bs == 0 || nat_lt 4 k then garbled 0
+    else (if nat_lt (length bs) (extent k) then garbled (length bs)
+    else (if nat_lt (extent k) (length bs) then garbled (extent k)
+    else call_at k bs))
 
 abbrev pub read : List ℕ → Call
 read bs = read_as (slice_index bs 0) bs
@@ -38,7 +44,8 @@ pub record FirstMisfit (bs : List ℕ) (p : ℕ) : Type 0 where
 
 -- how many bytes the first of a row of calls takes: all, where it cannot be read
 abbrev pub first_extent : List ℕ → ℕ
-first_extent bs = cond (nat_lt 4 (slice_index bs 0)) (length bs) (min (extent (slice_index bs 0)) (length bs))
+first_extent bs =
+    if nat_lt 4 (slice_index bs 0) then length bs else min (extent (slice_index bs 0)) (length bs)
 
 -- What reading the bytes bs as the call c says: it is what they are, up to the width of a place; where they are no call the
 -- place is that of the first byte that does not fit; and of the bytes of a call it is that call.
