@@ -1,5 +1,4 @@
 pub mod Bytes
-pub mod Parts
 pub mod CallRows
 pub mod Misfits
 pub mod Narrow

@@ -110,7 +110,7 @@ impl From<AllocError> for DecodeError {
 
 impl Answer<Vec<u64>> {
     // The answer that these bytes are.
-    #[tactic(auto, using(crate::proofs::AnswerRows::decode))]
+    #[tactic(auto, using(crate::proofs::AnswerRows::decoding))]
     pub fn decode(heap: Global, bytes: &[u8]) -> Result<Self, DecodeError>
         ensures said { IsDecoded (λ v. v.items) bytes.now result }
         ensures back { AnswerBack }

@@ -122,6 +122,7 @@ fn kind_of(bytes: &[u8]) -> Result<CallKind, Garbled>
 }
 
 // The place that stands in a row of bytes. Every place of 2^32 and more is the last of 32 bits: no claim is at either.
+#[tactic(auto, using(crate::proofs::Narrow::narrowed))]
 fn place_at(bytes: &[u8], at: usize) -> Place
     requires { at + 8 ≤ length bytes.now }
     ensures { result ≡ min (number_at bytes.now at) 4294967295 }

@@ -1,7 +1,6 @@
 // Numbers in rows of bytes, eight bytes each, low byte first.
-ghost use Rattle.std.specs.Prelude.{◌≡◌, ◌+◌, ◌*◌, ◌/◌, ◌≤◌, ◌++◌, length, drop, IfOk};
-ghost use Rattle.std.specs.List.{flat_map};
-ghost use Rattle.wire.specs.Bytes.{Fitting, eight, number_at, numbers, row};
+ghost use Rattle.std.specs.Prelude.{◌≡◌, ◌+◌, ◌/◌, ◌≤◌, ◌++◌, length, IfOk};
+ghost use Rattle.wire.specs.Bytes.{Fitting, number_at, numbers, row};
 ghost use Rattle.wire.specs.Written.{Written};
 
 use crate::refusals::Refusal;
@@ -15,33 +14,26 @@ pub(crate) fn number_at(bytes: &[u8], at: usize) -> u64
     u64::from_le_bytes(*bytes[at..].first_chunk().unwrap())
 }
 
-// Writes numbers at the start of a part that has room for them.
-fn put_numbers(part: &mut [u8], list: &[u64])
-    requires { 8 * length list.now ≤ length part.old }
-    ensures { part.new ≡ flat_map eight list.now ++ drop (8 * length list.now) part.old }
-{
-    for (i, n) in list.iter().enumerate() {
-        part[8 * i..8 * i + 8].copy_from_slice(&n.to_le_bytes());
-    }
-}
-
-// Writes a row: its kind, the numbers of its head and, in the part behind them, those of its list.
+// Writes a row: its kind, the numbers of its head and, behind them, those of its list.
+#[tactic(auto, using(crate::proofs::Bytes::rows, std::proofs::lemmas::Grind::common_steps))]
 pub(crate) fn put(out: &mut [u8], kind: u8, head: &[u64], list: &[u64]) -> Result<usize, Refusal>
     ensures written { Written (row kind (head.now ++ list.now)) out.old out.new result }
     ensures fit { Fitting (head.now ++ list.now) }
 {
-    let start = 1 + 8 * head.len();
-    let end = start + 8 * list.len();
+    let end = 1 + 8 * (head.len() + list.len());
     if out.len() < end {
         return Err(Refusal::NotLent);
     }
     out[0] = kind;
-    put_numbers(&mut out[1..], head);
-    put_numbers(&mut out[start..], list);
+    // by index: of a slice lent out in mutable chunks a proof knows only the length afterwards
+    for (i, n) in head.iter().chain(list).enumerate() {
+        out[1 + 8 * i..9 + 8 * i].copy_from_slice(&n.to_le_bytes());
+    }
     Ok(end)
 }
 
 // All the whole numbers in a row of bytes.
+#[tactic(auto, using(crate::proofs::Bytes::steps, std::proofs::lemmas::Grind::common_steps))]
 pub(crate) fn numbers_in(heap: Global, bytes: &[u8]) -> Result<Vec<u64>, AllocError>
     ensures { IfOk result (λ v. v.items ≡ numbers (length bytes.now / 8) bytes.now) }
 {
