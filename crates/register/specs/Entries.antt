@@ -1,7 +1,8 @@
 -- What is entered in a register, and the claims that it then has. Assumes nothing.
-use Rattle.std.specs.Prelude.{◌≡◌, ℕ, ◌+◌, ◌≤◌, if◌then◌else◌, List, [], ◌∷◌, ◌++◌, length, Some, None, fold, Option, Result, nat_lt, slice_set}
-use Rattle.register.specs.Rows.{middle, kept, Added, Changed}
+use Rattle.std.specs.Prelude.{◌≡◌, ℕ, ◌≤◌, if◌then◌else◌, List, [], ◌∷◌, ◌++◌, length, fold, Option, Result, nat_lt, slice_set}
+use Rattle.register.specs.Rows.{middle, kept, AddedTo, ChangedIn}
 use Rattle.register.specs.declared.row.Moved.{Moved}
+use Rattle.register.specs.declared.rows.Register.{Register}
 use Rattle.register.specs.declared.rows.Unfit.{Unfit}
 use Rattle.register.specs.declared.entries.Entry.{Entry}
 use Rattle.register.specs.declared.entries.Entry.TheVariants.{Add, Change}
@@ -21,24 +22,7 @@ pub record Keeps (ws cs : List ℕ) (new : List ℕ) (n : ℕ) : Type 0 where
   pub room : n ≤ middle ws
   pub words : new ≡ kept ws cs
 
--- How many claims there are once one more was to be added.
-abbrev pub grown : ℕ → Option ℕ → ℕ
-grown n None = n
-grown n (Some at) = n + 1
-
--- A claim was added, or there was no room.
-pub record AdditionDone (n c : ℕ) (ws new : List ℕ) (r : ℕ) : Type 0 where
-  pub answer : Option ℕ
-  pub added : Added n c ws new answer
-  pub count : r ≡ grown n answer
-
--- A claim was changed, or it did not fit.
-pub record ChangeDone (n i c : ℕ) (ws new : List ℕ) (r : ℕ) : Type 0 where
-  pub answer : Result Moved Unfit
-  pub changed : Changed n i c ws new answer
-  pub count : r ≡ n
-
--- what entering leaves and answers, whatever the words hold
-abbrev pub Done : Entry → ℕ → List ℕ → List ℕ → ℕ → Type 0
-Done (Add c) n ws new r = AdditionDone n c ws new r
-Done (Change i c) n ws new r = ChangeDone n i c ws new r
+-- what entering leaves, whatever the words hold
+abbrev pub Done : Entry → Register → Register → Type 0
+Done (Add c) old new = (r : Option ℕ) × AddedTo c old new r
+Done (Change i c) old new = (r : Result Moved Unfit) × ChangedIn i c old new r

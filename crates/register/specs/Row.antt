@@ -2,6 +2,7 @@
 -- nothing.
 use Rattle.std.specs.Prelude.{◌≡◌, ℕ, ◌+◌, ◌-◌, ◌<◌, ◌≤◌, ◌⊎◌, List, length, take, drop, Some, None, Option, slice_index}
 use Rattle.register.specs.declared.row.Moved.{Moved}
+use Rattle.register.specs.declared.row.Row.{Row}
 
 -- the n words from low on
 abbrev pub part : ℕ → ℕ → List ℕ → List ℕ
@@ -82,3 +83,33 @@ pub record Replacement (low n old c from to : ℕ) (ws new : List ℕ) : Type 0 
 abbrev pub Replaced : ℕ → ℕ → ℕ → ℕ → List ℕ → List ℕ → Option Moved → Type 0
 Replaced low n old c ws new None = ((length ws < low + n) ⊎ Missing low (low + n) old ws) × (new ≡ ws)
 Replaced low n old c ws new (Some m) = Replacement low n old c m.from m.to ws new
+
+-- how many claims there are once one more was to be put in, and once one was to be taken out
+abbrev pub grown : ℕ → Option ℕ → ℕ
+grown n None = n
+grown n (Some at) = n + 1
+
+abbrev pub shrunk : ℕ → Option ℕ → ℕ
+shrunk n None = n
+shrunk n (Some at) = n - 1
+
+-- It is the row from the same place on, of the same lent words, and n of these are claims.
+pub record SameRow (old new : Row) (n : ℕ) : Type 0 where
+  pub lent : new.words.ghost_name ≡ old.words.ghost_name
+  pub start : new.start ≡ old.start
+  pub count : new.count ≡ n
+
+-- What inserting leaves of a row that is lent, and answers.
+pub record InsertedInto (c : ℕ) (old new : Row) (r : Option ℕ) : Type 0 where
+  pub row : SameRow old new (grown old.count r)
+  pub inserted : Inserted old.start old.count c old.words.now new.words.now r
+
+-- What removing does.
+pub record RemovedFrom (c : ℕ) (old new : Row) (r : Option ℕ) : Type 0 where
+  pub row : SameRow old new (shrunk old.count r)
+  pub removed : Removed old.start old.count c old.words.now new.words.now r
+
+-- What replacing does.
+pub record ReplacedIn (c d : ℕ) (old new : Row) (r : Option Moved) : Type 0 where
+  pub row : SameRow old new old.count
+  pub replaced : Replaced old.start old.count c d old.words.now new.words.now r

@@ -2,8 +2,9 @@
 -- middle on, for the same claims in order. Assumes nothing.
 use Rattle.std.specs.Prelude.{◌≡◌, ℕ, ◌+◌, ◌/◌, ◌<◌, ◌≤◌, ◌⊎◌, List, ◌++◌, length, take, drop, Some, None, Ok, Err, Option, Result, codes, slice_index, slice_set}
 use Rattle.estate.specs.Order.{sorted}
-use Rattle.register.specs.Row.{Missing, Insertion, Replacement}
+use Rattle.register.specs.Row.{grown, Missing, Insertion, Replacement}
 use Rattle.register.specs.declared.row.Moved.{Moved}
+use Rattle.register.specs.declared.rows.Register.{Register}
 use Rattle.register.specs.declared.rows.Unfit.{Unfit}
 use Rattle.register.specs.declared.rows.Unfit.TheVariants.{NotThere, OutOfOrder}
 
@@ -42,6 +43,18 @@ unfit_text OutOfOrder = codes "the claims are not in order"
 abbrev pub Changed : ℕ → ℕ → ℕ → List ℕ → List ℕ → Result Moved Unfit → Type 0
 Changed n i c ws new (Ok m) = Change n i c m.from m.to ws new
 Changed n i c ws new (Err why) = Unchanged n i ws why × (new ≡ ws)
+
+-- One more claim was to be added to a register. Its words are those that were lent.
+pub record AddedTo (c : ℕ) (old new : Register) (r : Option ℕ) : Type 0 where
+  pub lent : new.rows.ghost_name ≡ old.rows.ghost_name
+  pub count : new.count ≡ grown old.count r
+  pub added : Added old.count c old.rows.now new.rows.now r
+
+-- One was to be changed.
+pub record ChangedIn (i c : ℕ) (old new : Register) (r : Result Moved Unfit) : Type 0 where
+  pub lent : new.rows.ghost_name ≡ old.rows.ghost_name
+  pub count : new.count ≡ old.count
+  pub changed : Changed old.count i c old.rows.now new.rows.now r
 
 -- claims at the start of a row, and what lay behind them
 abbrev pub over : List ℕ → List ℕ → List ℕ

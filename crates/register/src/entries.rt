@@ -3,7 +3,7 @@ ghost use Rattle.register.specs.Entries.{claims_of, Done, Keeps};
 ghost use Rattle.register.specs.Laws.{Inserts, Removes, Replaces, OnePlace, NotIn, StaysRising, Ascending, OnlyAscending, Adds, Changes, NeverOutOfOrder};
 ghost use Rattle.register.specs.Rows.{middle};
 
-use crate::rows::{add, change};
+use crate::rows::Register;
 
 // What is entered.
 #[derive(Clone, Copy, Debug, PartialEq, Eq)]
@@ -14,15 +14,14 @@ pub enum Entry {
     Change(usize, u64),
 }
 
-// Enters one, and answers how many claims there are then.
-fn enter(rows: &mut [u64], count: usize, entry: Entry) -> usize
-    ensures { Done entry count rows.old rows.new result }
-{
-    match entry {
-        Entry::Add(claim) => add(rows, count, claim).map_or(count, |_| count + 1),
-        Entry::Change(i, claim) => {
-            let _ = change(rows, count, i, claim);
-            count
+impl Register<'_> {
+    // Enters one.
+    fn enter(&mut self, entry: Entry)
+        ensures { Done entry self.old self.new }
+    {
+        match entry {
+            Entry::Add(claim) => drop(self.add(claim)),
+            Entry::Change(i, claim) => drop(self.change(i, claim)),
         }
     }
 }
@@ -44,10 +43,11 @@ pub fn enter_all(rows: &mut [u64], entries: &[Entry]) -> usize
     ensures changes { Changes }
     ensures never_out_of_order { NeverOutOfOrder }
 {
-    let mut count = 0;
-    // With `fold` nothing would be known of what its closure leaves in `rows`.
+    let mut register = Register::new(rows, 0);
+    // A loop: a `fold` would take the register and hand it back for each entry, which is no plainer, and with `for_each` the
+    // check does not find what its closure leaves in `register`.
     for &entry in entries {
-        count = enter(rows, count, entry);
+        register.enter(entry);
     }
-    count
+    register.count
 }

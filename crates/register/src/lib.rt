@@ -6,5 +6,5 @@ mod row;
 mod rows;
 
 pub use entries::{Entry, enter_all};
-pub use row::{Moved, insert, remove, replace};
-pub use rows::{Unfit, add, change};
+pub use row::{Moved, Row};
+pub use rows::{Register, Unfit};

@@ -1,8 +1,7 @@
 // A row of claims in ascending order, in some part of lent memory: `count` words from `start` on. Places are those of words
-// in the memory. What lies outside the part is left as it is. The memory is lent for each call, so the functions that write
-// are told the part by its start and count; what only reads is a method of `Part`.
+// in the memory. What lies outside the part is left as it is.
 ghost use Rattle.std.specs.Prelude.{◌≡◌, ◌+◌, ◌<◌, ◌≤◌, ◌↔◌, length, IsSome, IfSome};
-ghost use Rattle.register.specs.Row.{Fits, Found, Goes, Carried, Inserted, Removed, Replaced};
+ghost use Rattle.register.specs.Row.{Fits, Found, Goes, Carried, InsertedInto, RemovedFrom, ReplacedIn};
 
 // A claim at `from` went out and one at `to` came in: what lay between has moved by one place.
 #[derive(Clone, Copy, Debug, PartialEq, Eq)]
@@ -22,16 +21,6 @@ struct Part<'a> {
 }
 
 impl<'a> Part<'a> {
-    // The `count` words from `start` on, if there are so many.
-    fn new(words: &'a [u64], start: usize, count: usize) -> Option<Self>
-        ensures there { IsSome result ↔ (start + count ≤ length words.now) }
-        ensures same { IfSome result (λ part. (part.words.now ≡ words.now) × (part.start ≡ start)) }
-        ensures end { IfSome result (λ part. part.end ≡ start + count) }
-    {
-        let end = start.checked_add(count).filter(|&end| end <= words.len())?;
-        Some(Part { words, start, end })
-    }
-
     // A place where a claim fits, found by halving.
     fn place(&self, claim: u64) -> usize
         ensures { Fits self.now.start self.now.end claim self.now.words.now result }
@@ -89,39 +78,80 @@ fn carry(words: &mut [u64], from: usize, to: usize, claim: u64)
     words[to] = claim;
 }
 
-// Puts in one more claim, and answers where. The word behind the row becomes its last; where there is none, nothing is
-// done.
-pub fn insert(words: &mut [u64], start: usize, count: usize, claim: u64) -> Option<usize>
-    ensures { Inserted start count claim words.old words.new result }
-{
-    let part = Part::new(words, start, count)?;
-    if part.end == words.len() {
-        return None;
+// The memory that is lent, and where in it the row is. Of a row for which the memory is too short nothing is done.
+#[derive(Drop)]
+pub struct Row<'a> {
+    pub words: &'a mut [u64],
+    pub start: usize,
+    pub count: usize,
+}
+
+impl<'a> Row<'a> {
+    // The `count` words from `start` on.
+    pub fn new(words: &'a mut [u64], start: usize, count: usize) -> Self
+        ensures { result ≡ record { words = words.entry; start = start; count = count } }
+    {
+        Row {
+            words,
+            start,
+            count,
+        }
     }
-    let at = part.place(claim);
-    carry(words, start + count, at, claim);
-    Some(at)
-}
 
-// Takes out one claim that is as much, and answers where it was. The row's last word becomes 0. Where no such claim is
-// found, nothing is done.
-pub fn remove(words: &mut [u64], start: usize, count: usize, claim: u64) -> Option<usize>
-    ensures { Removed start count claim words.old words.new result }
-{
-    let part = Part::new(words, start, count)?;
-    let at = part.find(claim)?;
-    carry(words, at, start + count - 1, 0);
-    Some(at)
-}
+    // What is read of it, if there are so many words.
+    fn part(&self) -> Option<Part<'_>>
+        ensures there { IsSome result
+            ↔ (self.now.start + self.now.count ≤ length self.now.words.now) }
+        ensures words { IfSome result (λ part. part.words.now ≡ self.now.words.now) }
+        ensures start { IfSome result (λ part. part.start ≡ self.now.start) }
+        ensures end { IfSome result (λ part. part.end ≡ self.now.start + self.now.count) }
+    {
+        let start = self.start;
+        let end = start
+            .checked_add(self.count)
+            .filter(|&end| end <= self.words.len())?;
+        Some(Part {
+            words: self.words,
+            start,
+            end,
+        })
+    }
 
-// Takes out one claim that is as much as `old` and puts in `new`, and answers from where to where. Where no such claim is
-// found, nothing is done.
-pub fn replace(words: &mut [u64], start: usize, count: usize, old: u64, new: u64) -> Option<Moved>
-    ensures { Replaced start count old new words.old words.new result }
-{
-    let part = Part::new(words, start, count)?;
-    let from = part.find(old)?;
-    let to = part.new_place(from, new);
-    carry(words, from, to, new);
-    Some(Moved { from, to })
+    // Puts in one more claim, and answers where. The word behind the row becomes its last; where there is none, nothing is
+    // done.
+    pub fn insert(&mut self, claim: u64) -> Option<usize>
+        ensures { InsertedInto claim self.old self.new result }
+    {
+        let part = self.part()?;
+        if part.end == self.words.len() {
+            return None;
+        }
+        let at = part.place(claim);
+        carry(self.words, self.start + self.count, at, claim);
+        self.count += 1;
+        Some(at)
+    }
+
+    // Takes out one claim that is as much, and answers where it was. The row's last word becomes 0. Where no such claim is
+    // found, nothing is done.
+    pub fn remove(&mut self, claim: u64) -> Option<usize>
+        ensures { RemovedFrom claim self.old self.new result }
+    {
+        let at = self.part()?.find(claim)?;
+        carry(self.words, at, self.start + self.count - 1, 0);
+        self.count -= 1;
+        Some(at)
+    }
+
+    // Takes out one claim that is as much as `old` and puts in `new`, and answers from where to where. Where no such claim is
+    // found, nothing is done.
+    pub fn replace(&mut self, old: u64, new: u64) -> Option<Moved>
+        ensures { ReplacedIn old new self.old self.new result }
+    {
+        let part = self.part()?;
+        let from = part.find(old)?;
+        let to = part.new_place(from, new);
+        carry(self.words, from, to, new);
+        Some(Moved { from, to })
+    }
 }

@@ -1,10 +1,9 @@
 // A register: two rows of words side by side, for claims as they came and, from the middle on, for the same in order. It is
-// kept in memory of a fixed size that is lent for each call, beside other things, so it is no vector, and its words and
-// their count are told to each call.
-ghost use Rattle.std.specs.Prelude.{Some};
-ghost use Rattle.register.specs.Rows.{Added, Changed, unfit_text};
+// kept in memory of a fixed size that is lent, beside other things, so it is no vector.
+ghost use Rattle.std.specs.Prelude.{◌≡◌, Some};
+ghost use Rattle.register.specs.Rows.{unfit_text, AddedTo, ChangedIn};
 
-use crate::row::{Moved, insert, replace};
+use crate::row::{Moved, Row};
 use std::error::Error;
 use std::fmt;
 
@@ -30,28 +29,48 @@ impl fmt::Display for Unfit {
 
 impl Error for Unfit {}
 
-// Adds a claim last, and answers where it is among those in order. Where there is no room, nothing is done.
-pub fn add(rows: &mut [u64], count: usize, claim: u64) -> Option<usize>
-    ensures { Added count claim rows.old rows.new result }
-{
-    let middle = rows.len() / 2;
-    if middle <= count {
-        return None;
-    }
-    rows[count] = claim;
-    insert(rows, middle, count, claim)
+// The words that are lent, and how many claims are said to be in them, which may be more than there is room for.
+#[derive(Drop)]
+pub struct Register<'a> {
+    pub rows: &'a mut [u64],
+    pub count: usize,
 }
 
-// Changes the claim at a place, and answers what moved among those in order. Where that does not fit, nothing is done.
-pub fn change(rows: &mut [u64], count: usize, i: usize, claim: u64) -> Result<Moved, Unfit>
-    ensures { Changed count i claim rows.old rows.new result }
-{
-    let middle = rows.len() / 2;
-    if middle < count || count <= i {
-        return Err(Unfit::NotThere);
+impl<'a> Register<'a> {
+    // A register of `count` claims, if words are lent that are one.
+    pub fn new(rows: &'a mut [u64], count: usize) -> Self
+        ensures { result ≡ record { rows = rows.entry; count = count } }
+    {
+        Register { rows, count }
     }
-    let old = rows[i];
-    let moved = replace(rows, middle, count, old, claim).ok_or(Unfit::OutOfOrder)?;
-    rows[i] = claim;
-    Ok(moved)
+
+    // Adds a claim last, and answers where it is among those in order. Where there is no room, nothing is done.
+    pub fn add(&mut self, claim: u64) -> Option<usize>
+        ensures { AddedTo claim self.old self.new result }
+    {
+        let middle = self.rows.len() / 2;
+        if middle <= self.count {
+            return None;
+        }
+        self.rows[self.count] = claim;
+        let at = Row::new(self.rows, middle, self.count).insert(claim)?;
+        self.count += 1;
+        Some(at)
+    }
+
+    // Changes the claim at a place, and answers what moved among those in order. Where that does not fit, nothing is done.
+    pub fn change(&mut self, i: usize, claim: u64) -> Result<Moved, Unfit>
+        ensures { ChangedIn i claim self.old self.new result }
+    {
+        let middle = self.rows.len() / 2;
+        if middle < self.count || self.count <= i {
+            return Err(Unfit::NotThere);
+        }
+        let old = self.rows[i];
+        let moved = Row::new(self.rows, middle, self.count)
+            .replace(old, claim)
+            .ok_or(Unfit::OutOfOrder)?;
+        self.rows[i] = claim;
+        Ok(moved)
+    }
 }

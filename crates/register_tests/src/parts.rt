@@ -1,6 +1,6 @@
 // Claims in order in a part of memory that begins in its middle, at the second of six words. What lies outside the part
 // stays.
-use register::{Moved, insert, remove, replace};
+use register::{Moved, Row};
 
 const MOST: usize = 18446744073709551614;
 
@@ -21,7 +21,9 @@ const INSERTED: [([u64; 6], usize, u64, usize, [u64; 6]); 6] = [
 fn claims_inserted(rt: HostRuntime) {
     for (before, count, claim, at, after) in INSERTED {
         let mut words = before;
-        assert_eq!(rt; insert(&mut words, 1, count, claim), Some(at));
+        let mut row = Row::new(&mut words, 1, count);
+        assert_eq!(rt; row.insert(claim), Some(at));
+        assert_eq!(rt; row.count, count + 1);
         assert!(rt; words == after);
     }
 }
@@ -41,7 +43,9 @@ const REMOVED: [([u64; 6], usize, u64, usize, [u64; 6]); 6] = [
 fn claims_removed(rt: HostRuntime) {
     for (before, count, claim, at, after) in REMOVED {
         let mut words = before;
-        assert_eq!(rt; remove(&mut words, 1, count, claim), Some(at));
+        let mut row = Row::new(&mut words, 1, count);
+        assert_eq!(rt; row.remove(claim), Some(at));
+        assert_eq!(rt; row.count, count - 1);
         assert!(rt; words == after);
     }
 }
@@ -62,7 +66,9 @@ const REPLACED: [(u64, u64, Moved, [u64; 6]); 7] = [
 fn claims_replaced(rt: HostRuntime) {
     for (old, new, moved, after) in REPLACED {
         let mut words = FOUR;
-        assert_eq!(rt; replace(&mut words, 1, 4, old, new), Some(moved));
+        let mut row = Row::new(&mut words, 1, 4);
+        assert_eq!(rt; row.replace(old, new), Some(moved));
+        assert_eq!(rt; row.count, 4);
         assert!(rt; words == after);
     }
 }
@@ -75,9 +81,11 @@ const NO_ROOM: [(usize, usize); 5] = [(1, 5), (6, 0), (7, 0), (1, MOST), (MOST, 
 fn no_room(rt: HostRuntime) {
     for (start, count) in NO_ROOM {
         let mut words = FOUR;
-        assert_eq!(rt; insert(&mut words, start, count, 10), None);
-        assert_eq!(rt; remove(&mut words, start, count + 1, 10), None);
-        assert_eq!(rt; replace(&mut words, start, count + 1, 10, 15), None);
+        let mut row = Row::new(&mut words, start, count);
+        assert_eq!(rt; row.insert(10), None);
+        row.count = count + 1;
+        assert_eq!(rt; row.remove(10), None);
+        assert_eq!(rt; row.replace(10, 15), None);
         assert!(rt; words == FOUR);
     }
 }
@@ -89,8 +97,9 @@ const NOT_THERE: [u64; 5] = [5, 15, 45, 7, 9];
 fn not_there(rt: HostRuntime) {
     for claim in NOT_THERE {
         let mut words = FOUR;
-        assert_eq!(rt; remove(&mut words, 1, 4, claim), None);
-        assert_eq!(rt; replace(&mut words, 1, 4, claim, 10), None);
+        let mut row = Row::new(&mut words, 1, 4);
+        assert_eq!(rt; row.remove(claim), None);
+        assert_eq!(rt; row.replace(claim, 10), None);
         assert!(rt; words == FOUR);
     }
 }

@@ -1,5 +1,5 @@
 // Claims entered, as they came and in order. A register of eight words has room for four.
-use register::{Entry, Moved, Unfit, add, change, enter_all};
+use register::{Entry, Moved, Register, Unfit, enter_all};
 
 // Entries, how many claims there are then, and the words, each of which was 8: none, ascending, descending, equal and zero,
 // one too many, the first and the last changed and one that is not there, and a change to the same.
@@ -93,7 +93,8 @@ const CHANGED: [(usize, u64, Result<Moved, Unfit>, [u64; 8]); 5] = [
 fn claims_changed(rt: HostRuntime) {
     for (i, claim, answer, after) in CHANGED {
         let mut rows = [10, 20, 20, 8, 10, 20, 20, 8];
-        assert_eq!(rt; change(&mut rows, 3, i, claim), answer);
+        let mut register = Register::new(&mut rows, 3);
+        assert_eq!(rt; register.change(i, claim), answer);
         assert!(rt; rows == after);
     }
 }
@@ -102,9 +103,12 @@ fn claims_changed(rt: HostRuntime) {
 #[test]
 fn nothing_done(rt: HostRuntime) {
     let mut rows = [10, 20, 20, 8, 11, 20, 20, 8];
-    assert_eq!(rt; change(&mut rows, 5, 0, 15), Err(Unfit::NotThere));
-    assert_eq!(rt; change(&mut rows, 3, 0, 15), Err(Unfit::OutOfOrder));
-    assert_eq!(rt; add(&mut rows, 4, 15), None);
+    let mut register = Register::new(&mut rows, 5);
+    assert_eq!(rt; register.change(0, 15), Err(Unfit::NotThere));
+    register.count = 3;
+    assert_eq!(rt; register.change(0, 15), Err(Unfit::OutOfOrder));
+    register.count = 4;
+    assert_eq!(rt; register.add(15), None);
     assert!(rt; rows == [10, 20, 20, 8, 11, 20, 20, 8]);
 }
 
@@ -112,7 +116,9 @@ fn nothing_done(rt: HostRuntime) {
 #[test]
 fn odd_words(rt: HostRuntime) {
     let mut rows = [8, 8, 8];
-    assert_eq!(rt; add(&mut rows, 0, 3), Some(1));
-    assert_eq!(rt; add(&mut rows, 1, 4), None);
+    let mut register = Register::new(&mut rows, 0);
+    assert_eq!(rt; register.add(3), Some(1));
+    assert_eq!(rt; register.add(4), None);
+    assert_eq!(rt; register.count, 1);
     assert!(rt; rows == [3, 3, 8]);
 }

@@ -1,4 +1,4 @@
-use Rattle.std.proofs.Common.{[], refl, arith}
+use Rattle.std.proofs.Common.{[], refl, ◌∙◌, arith, rules}
 use Rattle.std.proofs.lemmas.Grind.{common_steps}
 use Rattle.estate.specs.Order.{sorted}
 use Rattle.std.proofs.lemmas.List.{take_all}
@@ -15,17 +15,22 @@ use Rattle.register.proofs.entries.enter_all.Goals as goal
 
 pub loop-entry-init : goal.loop-entry-init
 unfolding sorted
-loop-entry-init c = record { count = refl; room = omega arith; words = grind (arith, common_steps) }
+loop-entry-init c =
+    rw c.new-register.ensures
+    (refl, record { count = refl; room = omega arith; words = grind (arith, common_steps) })
 
 pub loop-entry-preserved : goal.loop-entry-preserved
 loop-entry-preserved c =
-    rw (fold_more (entered (middle c.args.rows.now)) [] c.args.entries.now c.loop-entry.entry-index (Add 0) c.loop-entry-test.true)
-    (enters _ _ _ _ _ c.loop-entry.invariant _ _ c.enter-count.ensures)
+    let k = c.loop-entry.invariant in
+    let done = enters _ _ _ _ k.1 _ c.enter.ensures in
+    rw (fold_more (entered (middle c.new-register.result.rows.now)) [] c.args.entries.now c.loop-entry.entry-index (Add 0) c.loop-entry-test.true)
+    (done.0 ∙ k.0, done.1)
 
 pub returns : goal.returns
 returns c =
+    let k = rw (take_all _ c.args.entries.now c.loop-entry-test.false) at c.loop-entry.invariant.1 in
     record {
-      keeps = rw (take_all _ c.args.entries.now c.loop-entry-test.false) at c.loop-entry.invariant;
+      keeps = search rules;
       inserts = inserts;
       removes = removes;
       replaces = replaces;
