@@ -20,8 +20,12 @@ impl Register<'_> {
         ensures { Done entry self.old self.new }
     {
         match entry {
-            Entry::Add(claim) => drop(self.add(claim)),
-            Entry::Change(i, claim) => drop(self.change(i, claim)),
+            Entry::Add(claim) => {
+                let _ = self.add(claim);
+            }
+            Entry::Change(i, claim) => {
+                let _ = self.change(i, claim);
+            }
         }
     }
 }
