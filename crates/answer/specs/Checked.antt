@@ -13,5 +13,7 @@ use Rattle.wire.specs.declared.refusals.TurnedAway.{TurnedAway}
 -- what was heard is handed on, and no desk refuses it for its bytes or its size; or every desk answers with this refusal
 abbrev pub Checked : calls.Call → Result Call TurnedAway → Type 0
 Checked c (Ok k) =
-    (meaning k ≡ c) × ((l : Limits) (e : Estate) → (turned l e c ≢ unreadable) × (turned l e c ≢ too_large))
-Checked c (Err t) = (l : Limits) (e : Estate) → answered l e c ≡ refused (refusal_number t.why) t.place
+    (meaning k ≡ c)
+    × ((l : Limits) (e : Estate) → (turned l e c ≢ unreadable) × (turned l e c ≢ too_large))
+Checked c (Err t) =
+    (l : Limits) (e : Estate) → answered l e c ≡ refused (refusal_number t.why) t.place

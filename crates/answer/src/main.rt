@@ -19,9 +19,8 @@ fn checked(call: Result<Call, Garbled>) -> Result<Call, TurnedAway>
 {
     let call = call?;
     match call {
-        Call::Claim(cents) => few_enough(cents, 0)?,
+        Call::Claim(cents) | Call::Come(cents) => few_enough(cents, 0)?,
         Call::Prove(_, cents) => few_enough(cents, 1)?,
-        Call::Come(cents) => few_enough(cents, 0)?,
         Call::Shares | Call::Cents => (),
     }
     Ok(call)

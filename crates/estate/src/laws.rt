@@ -40,7 +40,8 @@ pub struct Share {
 }
 
 impl Share {
-    // Whether it is less than another, as much or more. It is no `Ord`: where `of` is 0 there is no order.
+    // Whether it is less than another, as much or more. It is no `Ord`: where `of` is 0 there is no order; and
+    // a derived `==` would tell 1 of 2 from 2 of 4.
     #[tactic(auto, using(crate::proofs::Carried::compare))]
     pub fn compare(self, other: Share) -> Ordering
         ensures value { MatchOrdering

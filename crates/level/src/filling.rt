@@ -10,7 +10,8 @@ pub struct Fraction {
 }
 
 // Fills the target into claims in ascending order, each up to the level, and answers the level. Where the target is more
-// than all that is claimed nobody shares what is left, and the denominator is 0.
+// than all that is claimed nobody shares what is left, and the denominator is 0: so has the definition it, and an `Option`
+// would lose what is left.
 #[tactic(auto, unfolding(estate::specs::Level::fill))]
 pub fn fill(claims: &[u64], target: u64) -> Fraction
     ensures { Fills claims.now target result }

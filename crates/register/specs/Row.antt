@@ -110,6 +110,6 @@ pub record RemovedFrom (c : ℕ) (old new : Row) (r : Option ℕ) : Type 0 where
   pub removed : Removed old.start old.count c old.words.now new.words.now r
 
 -- What replacing does.
-pub record ReplacedIn (c d : ℕ) (old new : Row) (r : Option Moved) : Type 0 where
+pub record ReplacedIn (gone c : ℕ) (old new : Row) (r : Option Moved) : Type 0 where
   pub row : SameRow old new old.count
-  pub replaced : Replaced old.start old.count c d old.words.now new.words.now r
+  pub replaced : Replaced old.start old.count gone c old.words.now new.words.now r

@@ -1,5 +1,6 @@
 // A row of claims in ascending order, in some part of lent memory: `count` words from `start` on. Places are those of words
-// in the memory. What lies outside the part is left as it is.
+// in the memory. What lies outside the part is left as it is. The memory has a fixed size and other things in it, so a row
+// is a start and a count and no vector; nor a slice of its own: with one the checker did not find the proofs of `Register`.
 ghost use Rattle.std.specs.Prelude.{◌≡◌, ◌+◌, ◌<◌, ◌≤◌, ◌↔◌, length, IsSome, IfSome};
 ghost use Rattle.register.specs.Row.{Fits, Found, Goes, Carried, InsertedInto, RemovedFrom, ReplacedIn};
 
@@ -11,7 +12,7 @@ pub struct Moved {
 }
 
 // A part of lent memory, from `start` on and before `end`.
-#[derive(Clone, Copy)]
+#[derive(Clone, Copy, Debug, PartialEq, Eq)]
 struct Part<'a> {
     words: &'a [u64],
     start: usize,
@@ -79,7 +80,7 @@ fn carry(words: &mut [u64], from: usize, to: usize, claim: u64)
 }
 
 // The memory that is lent, and where in it the row is. Of a row for which the memory is too short nothing is done.
-#[derive(Drop)]
+#[derive(Debug, Drop)]
 pub struct Row<'a> {
     pub words: &'a mut [u64],
     pub start: usize,

@@ -30,7 +30,7 @@ impl fmt::Display for Unfit {
 impl Error for Unfit {}
 
 // The words that are lent, and how many claims are said to be in them, which may be more than there is room for.
-#[derive(Drop)]
+#[derive(Debug, Drop)]
 pub struct Register<'a> {
     pub rows: &'a mut [u64],
     pub count: usize,

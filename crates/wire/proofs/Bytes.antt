@@ -1,7 +1,8 @@
 -- Numbers to bytes and back. Assumes nothing.
 use Rattle.std.proofs.Common.{◌≡◌, ℕ, zero, suc, ◌+◌, ◌-◌, ◌*◌, ◌/◌, ◌%◌, ◌^◌, ◌<◌, ◌≤◌, List, [], ◌∷◌, ◌++◌, length, get_or, take, drop, sym, refl, ap, subst, arith, length-drop, take-append-drop}
+use Rattle.std.specs.Int.{w64, from_le_bytes}
 use Rattle.std.specs.List.{flat_map}
-use Rattle.std.proofs.lemmas.List.{places, length-take-le, nil_from_length}
+use Rattle.std.proofs.lemmas.List.{places, drop-drop, length-take-le, nil_from_length}
 use Rattle.std.proofs.lemmas.Nat.{le_bytes_8, from_le_bytes-to_le_bytes_8}
 use Rattle.std.proofs.lemmas.Grind.{common_steps}
 use Rattle.wire.specs.Bytes.{Bytes, Fitting, eight, number_at, numbers, row}
@@ -11,6 +12,9 @@ bytes_take n bs h i = grind (arith, places)
 
 pub bytes_drop : (n : ℕ) (bs : List ℕ) → Bytes bs → Bytes (drop n bs)
 bytes_drop n bs h i = grind (arith, places)
+
+pub number_at-drop : (m i : ℕ) (bs : List ℕ) → number_at (drop m bs) i ≡ number_at bs (m + i)
+number_at-drop m i bs = ap (λ (l : List ℕ). from_le_bytes w64 (take 8 l)) (drop-drop i m bs)
 
 -- a number's bytes are read as that number
 pub number_at-eight : (n : ℕ) (rest : List ℕ) → n < 2 ^ 64 → number_at (eight n ++ rest) 0 ≡ n

@@ -11,33 +11,9 @@ use crate::kinds::AnswerKind;
 use crate::refusals::{Place, Refusal, TurnedAway};
 use crate::rows::{numbers_in, put};
 use std::alloc::{AllocError, Global};
+use std::convert::AsSlice;
 use std::error::Error;
 use std::fmt;
-
-// A list of numbers that an answer owns or was lent.
-pub trait Numbers {
-    // the numbers
-    ghost items: { Self → List ℕ };
-
-    fn numbers(&self) -> &[u64]
-        ensures { result.now ≡ items self.now };
-}
-
-impl Numbers for Vec<u64> {
-    ghost items = { λ v. v.items };
-
-    fn numbers(&self) -> &[u64] {
-        self.as_slice()
-    }
-}
-
-impl<'a> Numbers for &'a [u64] {
-    ghost items = { λ s. s.now };
-
-    fn numbers(&self) -> &[u64] {
-        *self
-    }
-}
 
 // An answer whose lists are of type L.
 #[derive(Debug, PartialEq, Eq, Drop)]
@@ -51,19 +27,19 @@ pub enum Answer<L> {
     Amounts(L),
 }
 
-impl<L: Numbers> Answer<L> {
+impl<L: AsSlice<u64>> Answer<L> {
     // Writes the answer at the start of lent bytes, and says how many it takes.
     pub fn encode(&self, out: &mut [u8]) -> Result<usize, Refusal>
         ensures { Sent (told L.items self.now) out.old out.new result }
     {
         match self {
-            Answer::Refused(call) => {
-                let head = [u64::from(call.why), u64::from(call.place)];
+            Answer::Refused(turned) => {
+                let head = [u64::from(turned.why), u64::from(turned.place)];
                 put(out, AnswerKind::Refused as u8, &head, &[])
             }
             Answer::Number(n) => put(out, AnswerKind::Number as u8, &[*n], &[]),
             Answer::Parts(d, shares) => {
-                let shares = shares.numbers();
+                let shares = shares.as_slice();
                 put(
                     out,
                     AnswerKind::Parts as u8,
@@ -72,7 +48,7 @@ impl<L: Numbers> Answer<L> {
                 )
             }
             Answer::Amounts(cents) => {
-                let cents = cents.numbers();
+                let cents = cents.as_slice();
                 put(out, AnswerKind::Amounts as u8, &[cents.len() as u64], cents)
             }
         }
@@ -127,7 +103,8 @@ impl Answer<Vec<u64>> {
     }
 }
 
-// The answer of a kind with these numbers behind it.
+// The answer of a kind with these numbers behind it. Why a number stands for nothing does not matter here, so it is dropped
+// (`map_err`): a `From` for each error is no plainer.
 fn answer_of(heap: Global, kind: AnswerKind, list: &[u64]) -> Result<Answer<Vec<u64>>, DecodeError>
     ensures { IsShaped (λ v. v.items) (told_by kind) list.now result }
 {

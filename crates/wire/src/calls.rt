@@ -69,7 +69,7 @@ impl Call {
 }
 
 // The calls of a row of bytes, one after the other. Behind one that cannot be read none are left.
-#[derive(Clone, Copy, Debug)]
+#[derive(Clone, Debug, Drop)]
 pub struct Calls<'a>(pub &'a [u8]);
 
 impl<'a> Iterator for Calls<'a> {
@@ -121,7 +121,8 @@ fn kind_of(bytes: &[u8]) -> Result<CallKind, Garbled>
     }
 }
 
-// The place that stands in a row of bytes. Every place of 2^32 and more is the last of 32 bits: no claim is at either.
+// The place that stands in a row of bytes. Every place of 2^32 and more is the last of 32 bits: no claim is at either, so a
+// place needs no case of its own for these.
 #[tactic(auto, using(crate::proofs::Narrow::narrowed))]
 fn place_at(bytes: &[u8], at: usize) -> Place
     requires { at + 8 ≤ length bytes.now }

@@ -3,7 +3,7 @@ ghost use Rattle.std.specs.Prelude.{◌≡◌};
 ghost use Rattle.wire.specs.Kinds.{asked_by, told_by, IsAsked, IsTold};
 ghost use Rattle.wire.specs.Calls.{extent};
 
-// A byte that stands for nothing.
+// A byte that stands for no kind. It is not one type with `UnknownRefusal`, since that one says what was not known.
 #[derive(Clone, Copy, Debug, PartialEq, Eq)]
 pub(crate) struct UnknownKind(pub(crate) u8);
 

@@ -7,6 +7,6 @@ mod kinds;
 mod refusals;
 mod rows;
 
-pub use answers::{Answer, DecodeError, Numbers};
+pub use answers::{Answer, DecodeError};
 pub use calls::{Call, Calls};
 pub use refusals::{Garbled, Place, Refusal, TurnedAway, UnknownRefusal};
