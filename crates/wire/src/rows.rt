@@ -25,7 +25,8 @@ pub(crate) fn put(out: &mut [u8], kind: u8, head: &[u64], list: &[u64]) -> Resul
         return Err(Refusal::NotLent);
     }
     out[0] = kind;
-    // by index: of a slice lent out in mutable chunks a proof knows only the length afterwards
+    // By index: of a slice lent out in mutable chunks a proof knows only the length afterwards, and while it is lent piece
+    // by piece (`split_first_chunk_mut`) an invariant has no word for what it holds.
     for (i, n) in head.iter().chain(list).enumerate() {
         out[1 + 8 * i..9 + 8 * i].copy_from_slice(&n.to_le_bytes());
     }
