@@ -4,7 +4,7 @@ use Rattle.wire.specs.declared.kinds.CallKind.{CallKind}
 use Rattle.wire.specs.declared.kinds.CallKind.TheVariants as asked
 use Rattle.wire.specs.declared.kinds.AnswerKind.{AnswerKind}
 use Rattle.wire.specs.declared.kinds.AnswerKind.TheVariants as told
-use Rattle.wire.specs.declared.kinds.UnknownKind.{UnknownKind}
+use Rattle.wire.specs.declared.kinds.Unknown.{Unknown}
 
 abbrev pub asked_by : CallKind → ℕ
 asked_by asked.Claim = 0
@@ -20,8 +20,8 @@ told_by told.Parts = 2
 told_by told.Amounts = 3
 
 -- what a byte stands for: a kind that has it, or no kind has
-abbrev pub IsAsked : ℕ → Result CallKind UnknownKind → Type 0
+abbrev pub IsAsked : ℕ → Result CallKind (Unknown ℕ) → Type 0
 IsAsked byte r = MatchResult r (λ k. asked_by k ≡ byte) (λ e. (e.0 ≡ byte) × (4 < byte))
 
-abbrev pub IsTold : ℕ → Result AnswerKind UnknownKind → Type 0
+abbrev pub IsTold : ℕ → Result AnswerKind (Unknown ℕ) → Type 0
 IsTold byte r = MatchResult r (λ k. told_by k ≡ byte) (λ e. (e.0 ≡ byte) × (3 < byte))

@@ -13,7 +13,7 @@ use Rattle.wire.specs.declared.answers.DecodeError.TheVariants.{NoAnswer, OutOfM
 use Rattle.wire.specs.declared.refusals.Garbled.{Garbled}
 use Rattle.wire.specs.declared.refusals.Refusal.{Refusal}
 use Rattle.wire.specs.declared.refusals.Refusal.TheVariants.{Unreadable, TooLarge, NotLent, NotThere, NoRoom}
-use Rattle.wire.specs.declared.refusals.UnknownRefusal.{UnknownRefusal}
+use Rattle.wire.specs.declared.kinds.Unknown.{Unknown}
 
 abbrev pub meaning : Call → calls.Call
 meaning (Claim c) = calls.claims c
@@ -35,7 +35,7 @@ refusal_number NotThere = not_there
 refusal_number NoRoom = no_room
 
 -- what a number stands for: the refusal that has it, or none has
-abbrev pub IsRefusal : ℕ → Result Refusal UnknownRefusal → Type 0
+abbrev pub IsRefusal : ℕ → Result Refusal (Unknown ℕ) → Type 0
 IsRefusal n r = MatchResult r (λ k. refusal_number k ≡ n) (λ e. (e.0 ≡ n) × ((n < 1) ⊎ (5 < n)))
 
 -- the answer, where its lists are those that `items` says

@@ -7,8 +7,9 @@ use Rattle.wire.specs.declared.answers.DecodeError.TheVariants.{NoAnswer, OutOfM
 abbrev pub refused_text : ℕ → ℕ → List ℕ
 refused_text n p = codes "refused " ++ decimal n ++ codes " at " ++ decimal p
 
-abbrev pub unknown_refusal_text : ℕ → List ℕ
-unknown_refusal_text n = codes "no refusal has number " ++ decimal n
+-- a number that stands for nothing, which is printed so
+abbrev pub unknown_text : List ℕ → List ℕ
+unknown_text n = codes "nothing has number " ++ n
 
 -- bytes of which the one at place p is the first that does not fit
 abbrev pub garbled_text : ℕ → List ℕ

@@ -1,11 +1,26 @@
 // The first byte of a row: which call or answer it is.
 ghost use Rattle.std.specs.Prelude.{◌≡◌};
+ghost use Rattle.std.specs.Option.{option_map};
 ghost use Rattle.wire.specs.Kinds.{asked_by, told_by, IsAsked, IsTold};
 ghost use Rattle.wire.specs.Calls.{extent};
+ghost use Rattle.wire.specs.Texts.{unknown_text};
 
-// A byte that stands for no kind. It is not one type with `UnknownRefusal`, since that one says what was not known.
+use std::error::Error;
+use std::fmt;
+
+// A number that stands for nothing.
 #[derive(Clone, Copy, Debug, PartialEq, Eq)]
-pub(crate) struct UnknownKind(pub(crate) u8);
+pub struct Unknown<N>(pub N);
+
+impl<N: fmt::Display> fmt::Display for Unknown<N> {
+    ghost output = { λ e. option_map unknown_text (N.output e.0) };
+
+    fn fmt<W: fmt::Write>(&self, f: &mut fmt::Formatter<W>) -> fmt::Result {
+        write!(f, "nothing has number {}", self.0)
+    }
+}
+
+impl<N: fmt::Debug + fmt::Display + Drop> Error for Unknown<N> {}
 
 // What is asked.
 #[derive(Clone, Copy, Debug, PartialEq, Eq)]
@@ -31,18 +46,18 @@ impl CallKind {
 }
 
 impl TryFrom<u8> for CallKind {
-    type Error = UnknownKind;
+    type Error = Unknown<u8>;
 
     ghost try_from_gives = { IsAsked };
 
-    fn try_from(byte: u8) -> Result<Self, UnknownKind> {
+    fn try_from(byte: u8) -> Result<Self, Unknown<u8>> {
         match byte {
             0 => Ok(CallKind::Claim),
             1 => Ok(CallKind::Prove),
             2 => Ok(CallKind::Come),
             3 => Ok(CallKind::Shares),
             4 => Ok(CallKind::Cents),
-            _ => Err(UnknownKind(byte)),
+            _ => Err(Unknown(byte)),
         }
     }
 }
@@ -57,17 +72,17 @@ pub(crate) enum AnswerKind {
 }
 
 impl TryFrom<u8> for AnswerKind {
-    type Error = UnknownKind;
+    type Error = Unknown<u8>;
 
     ghost try_from_gives = { IsTold };
 
-    fn try_from(byte: u8) -> Result<Self, UnknownKind> {
+    fn try_from(byte: u8) -> Result<Self, Unknown<u8>> {
         match byte {
             0 => Ok(AnswerKind::Refused),
             1 => Ok(AnswerKind::Number),
             2 => Ok(AnswerKind::Parts),
             3 => Ok(AnswerKind::Amounts),
-            _ => Err(UnknownKind(byte)),
+            _ => Err(Unknown(byte)),
         }
     }
 }

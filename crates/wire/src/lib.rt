@@ -9,4 +9,5 @@ mod rows;
 
 pub use answers::{Answer, DecodeError};
 pub use calls::{Call, Calls};
-pub use refusals::{Garbled, Place, Refusal, TurnedAway, UnknownRefusal};
+pub use kinds::Unknown;
+pub use refusals::{Garbled, Place, Refusal, TurnedAway};

@@ -1,9 +1,10 @@
 // Why a call is turned away, and where.
 ghost use Rattle.std.specs.Prelude.{◌≡◌, Some};
 ghost use Rattle.wire.specs.Meaning.{refusal_number, IsRefusal};
-ghost use Rattle.wire.specs.Texts.{refused_text, garbled_text, unknown_refusal_text};
+ghost use Rattle.wire.specs.Texts.{refused_text, garbled_text};
 ghost use Rattle.wire.specs.declared.refusals.Refusal.TheVariants.{Unreadable};
 
+use crate::kinds::Unknown;
 use std::error::Error;
 use std::fmt;
 
@@ -33,36 +34,22 @@ impl From<Refusal> for u64 {
     }
 }
 
-// A number that stands for no refusal.
-#[derive(Clone, Copy, Debug, PartialEq, Eq)]
-pub struct UnknownRefusal(pub u64);
-
 impl TryFrom<u64> for Refusal {
-    type Error = UnknownRefusal;
+    type Error = Unknown<u64>;
 
     ghost try_from_gives = { IsRefusal };
 
-    fn try_from(n: u64) -> Result<Self, UnknownRefusal> {
+    fn try_from(n: u64) -> Result<Self, Unknown<u64>> {
         match n {
             1 => Ok(Refusal::Unreadable),
             2 => Ok(Refusal::TooLarge),
             3 => Ok(Refusal::NotLent),
             4 => Ok(Refusal::NotThere),
             5 => Ok(Refusal::NoRoom),
-            _ => Err(UnknownRefusal(n)),
+            _ => Err(Unknown(n)),
         }
     }
 }
-
-impl fmt::Display for UnknownRefusal {
-    ghost output = { λ e. Some (unknown_refusal_text e.0) };
-
-    fn fmt<W: fmt::Write>(&self, f: &mut fmt::Formatter<W>) -> fmt::Result {
-        write!(f, "no refusal has number {}", self.0)
-    }
-}
-
-impl Error for UnknownRefusal {}
 
 // Bytes that are no call, and the place of the first that does not fit.
 #[derive(Clone, Copy, Debug, PartialEq, Eq)]
