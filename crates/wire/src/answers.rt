@@ -1,6 +1,6 @@
 // Answers as rows of bytes.
 ghost use Rattle.std.specs.Prelude.{◌≡◌, ℕ, Some, List};
-ghost use Rattle.wire.specs.Kinds.{told_by};
+ghost use Rattle.wire.specs.Kinds.{answer_byte};
 ghost use Rattle.wire.specs.Laws.{OneAnswer, AnswerBack};
 ghost use Rattle.wire.specs.Meaning.{told, IsShaped, IsDecoded};
 ghost use Rattle.wire.specs.Texts.{error_text};
@@ -106,7 +106,7 @@ impl Answer<Vec<u64>> {
 // The answer of a kind with these numbers behind it. Why a number stands for nothing does not matter here, so it is dropped
 // (`map_err`): a `From` for each error is no plainer.
 fn answer_of(heap: Global, kind: AnswerKind, list: &[u64]) -> Result<Answer<Vec<u64>>, DecodeError>
-    ensures { IsShaped (λ v. v.items) (told_by kind) list.now result }
+    ensures { IsShaped (λ v. v.items) (answer_byte kind) list.now result }
 {
     match (kind, list) {
         (AnswerKind::Refused, [why, place]) => Ok(Answer::Refused(TurnedAway {

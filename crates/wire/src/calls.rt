@@ -5,7 +5,7 @@ ghost use Rattle.std.specs.Option.{option_map};
 ghost use Rattle.estate.specs.Calls.{garbled};
 ghost use Rattle.wire.specs.Bytes.{number_at};
 ghost use Rattle.wire.specs.Calls.{call_row, Sendable, narrow};
-ghost use Rattle.wire.specs.Kinds.{asked_by};
+ghost use Rattle.wire.specs.Kinds.{call_byte};
 ghost use Rattle.wire.specs.Reading.{read, Whole, Heard, first_extent, Split, Takes};
 ghost use Rattle.wire.specs.Laws.{OneCall, NarrowEnough};
 ghost use Rattle.wire.specs.Meaning.{meaning, heard};
@@ -105,7 +105,7 @@ fn end_of_first(calls: &[u8]) -> usize
 
 // The kind of the call that these bytes are, or the place of the first byte that does not fit.
 fn kind_of(bytes: &[u8]) -> Result<CallKind, Garbled>
-    ensures ok { IfOk result (λ k. Whole (asked_by k) bytes.now) }
+    ensures ok { IfOk result (λ k. Whole (call_byte k) bytes.now) }
     ensures err { IfErr result (λ e. read bytes.now ≡ garbled e.0) }
 {
     let Some(first) = bytes.first() else {
@@ -133,7 +133,7 @@ fn place_at(bytes: &[u8], at: usize) -> Place
 
 // The call that these bytes are, which are those of a call of this kind.
 fn call_at(kind: CallKind, bytes: &[u8]) -> Call
-    requires { Whole (asked_by kind) bytes.now }
+    requires { Whole (call_byte kind) bytes.now }
     ensures { meaning result ≡ narrow (read bytes.now) }
 {
     match kind {

@@ -1,7 +1,7 @@
 // The first byte of a row: which call or answer it is.
 ghost use Rattle.std.specs.Prelude.{◌≡◌};
 ghost use Rattle.std.specs.Option.{option_map};
-ghost use Rattle.wire.specs.Kinds.{asked_by, told_by, IsAsked, IsTold};
+ghost use Rattle.wire.specs.Kinds.{call_byte, answer_byte, IsCallKind, IsAnswerKind};
 ghost use Rattle.wire.specs.Calls.{extent};
 ghost use Rattle.wire.specs.Texts.{unknown_text};
 
@@ -35,7 +35,7 @@ pub(crate) enum CallKind {
 impl CallKind {
     // How many bytes a call of this kind has.
     pub(crate) fn extent(self) -> usize
-        ensures { result ≡ extent (asked_by self) }
+        ensures { result ≡ extent (call_byte self) }
     {
         match self {
             CallKind::Claim | CallKind::Come => 9,
@@ -48,7 +48,7 @@ impl CallKind {
 impl TryFrom<u8> for CallKind {
     type Error = Unknown<u8>;
 
-    ghost try_from_gives = { IsAsked };
+    ghost try_from_gives = { IsCallKind };
 
     fn try_from(byte: u8) -> Result<Self, Unknown<u8>> {
         match byte {
@@ -74,7 +74,7 @@ pub(crate) enum AnswerKind {
 impl TryFrom<u8> for AnswerKind {
     type Error = Unknown<u8>;
 
-    ghost try_from_gives = { IsTold };
+    ghost try_from_gives = { IsAnswerKind };
 
     fn try_from(byte: u8) -> Result<Self, Unknown<u8>> {
         match byte {
