@@ -17,7 +17,8 @@ pub struct Terms {
 
 impl Terms {
     // The parts of a cent in which shares are whole numbers: twice as many as creditors share the level, and 1 where there
-    // are no creditors.
+    // are no creditors. Of a level that somebody made up they may be more than a word holds, and are then the largest word: so
+    // they always answer.
     pub fn parts(self) -> u64
         ensures { result ≡ held (parts_of self) }
     {

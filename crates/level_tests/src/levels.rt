@@ -54,9 +54,7 @@ const DIVIDED: [(u64, u64, u64); 4] = [
 #[test]
 fn divided(rt: HostRuntime) -> Result<(), Fail> {
     for (there, claimed, divided) in DIVIDED {
-        let Some(estate) = Estate::new(there, claimed) else {
-            return Err(Fail::new("none"));
-        };
+        let estate = Estate::new(there, claimed).ok_or("none")?;
         assert_eq!(rt; estate.divided(), divided);
     }
     assert!(rt; Estate::new(1_000_000_000_001, 0).is_none());

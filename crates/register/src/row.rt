@@ -79,7 +79,8 @@ fn carry(words: &mut [u64], from: usize, to: usize, claim: u64)
     words[to] = claim;
 }
 
-// The memory that is lent, and where in it the row is. Of a row for which the memory is too short nothing is done.
+// The memory that is lent, and where in it the row is. Of a row for which the memory is too short nothing is done. It has no
+// `==`, since its words are lent to be written.
 #[derive(Debug, Drop)]
 pub struct Row<'a> {
     pub words: &'a mut [u64],

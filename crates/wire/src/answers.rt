@@ -15,7 +15,7 @@ use std::convert::AsSlice;
 use std::error::Error;
 use std::fmt;
 
-// An answer whose lists are of type L.
+// An answer whose lists are of type L. It has no `Clone`, since to copy a list may run out of memory.
 #[derive(Debug, PartialEq, Eq, Drop)]
 pub enum Answer<L> {
     // a call was turned away
@@ -95,6 +95,7 @@ impl Answer<Vec<u64>> {
         if bytes.len() % 8 != 1 {
             return Err(DecodeError::NoAnswer);
         }
+        // which byte it was does not matter here
         let Ok(kind) = AnswerKind::try_from(bytes[0]) else {
             return Err(DecodeError::NoAnswer);
         };

@@ -111,6 +111,7 @@ fn kind_of(bytes: &[u8]) -> Result<CallKind, Garbled>
     let Some(first) = bytes.first() else {
         return Err(Garbled(0));
     };
+    // a byte does not know its place, so a `From` could not make the error
     let Ok(kind) = CallKind::try_from(*first) else {
         return Err(Garbled(0));
     };

@@ -14,7 +14,8 @@ pub(crate) fn number_at(bytes: &[u8], at: usize) -> u64
     u64::from_le_bytes(*bytes[at..].first_chunk().unwrap())
 }
 
-// Writes a row: its kind, the numbers of its head and, behind them, those of its list.
+// Writes a row: the byte of its kind, the numbers of its head and, behind them, those of its list. It takes the byte and not
+// a kind, since calls and answers have kinds of their own; `as u8` of a kind is its byte.
 #[tactic(auto, using(crate::proofs::Bytes::rows, std::proofs::lemmas::Grind::common_steps))]
 pub(crate) fn put(out: &mut [u8], kind: u8, head: &[u64], list: &[u64]) -> Result<usize, Refusal>
     ensures written { Written (row kind (head.now ++ list.now)) out.old out.new result }
