@@ -1,6 +1,5 @@
 // A row of claims in ascending order, in some part of lent memory: `count` words from `start` on. Places are those of words
-// in the memory. What lies outside the part is left as it is. The memory has a fixed size and other things in it, so a row
-// is a start and a count and no vector; nor a slice of its own: with one the checker did not find the proofs of `Register`.
+// in the memory. What lies outside the part is left as it is.
 ghost use Rattle.std.specs.Prelude.{◌≡◌, ◌+◌, ◌<◌, ◌≤◌, ◌↔◌, length, IsSome, IfSome};
 ghost use Rattle.register.specs.Row.{Fits, Found, Goes, Carried, InsertedInto, RemovedFrom, ReplacedIn};
 
@@ -11,7 +10,7 @@ pub struct Moved {
     pub to: usize,
 }
 
-// A part of lent memory, from `start` on and before `end`.
+// A part of lent memory, from `start` on and before `end`. It is no slice of its own, since places are those of the memory.
 #[derive(Clone, Copy, Debug, PartialEq, Eq)]
 struct Part<'a> {
     words: &'a [u64],
@@ -79,8 +78,8 @@ fn carry(words: &mut [u64], from: usize, to: usize, claim: u64)
     words[to] = claim;
 }
 
-// The memory that is lent, and where in it the row is. Of a row for which the memory is too short nothing is done. It has no
-// `==`, since its words are lent to be written.
+// The memory that is lent, and where in it the row is. Of a row for which the memory is too short nothing is done. It is no
+// vector, since the memory has a fixed size and other things in it; it has no `==`, since its words are lent to be written.
 #[derive(Debug, Drop)]
 pub struct Row<'a> {
     pub words: &'a mut [u64],

@@ -29,8 +29,8 @@ impl fmt::Display for Unfit {
 
 impl Error for Unfit {}
 
-// The words that are lent, and how many claims are said to be in them, which may be more than there is room for. It has no
-// `==`, since its words are lent to be written.
+// The words that are lent, and how many claims are said to be in them, which may be more than there is room for. The
+// two rows halve the words, which have a fixed size. It has no `==`, since they are lent to be written.
 #[derive(Debug, Drop)]
 pub struct Register<'a> {
     pub rows: &'a mut [u64],
