@@ -1,4 +1,4 @@
-// Answers a file of calls, or standard input, a line for each call. So far it answers what needs no estate.
+// Answers a file of calls, or standard input, a line for each call. Whole cents come later.
 #![tactic(auto)]
 
 ghost use Rattle.std.specs.Prelude.{◌≡◌, ◌<◌, ◌≤◌, OnOk, OnErr, IfErr};
@@ -7,11 +7,15 @@ ghost use Rattle.wire.specs.Meaning.{heard};
 ghost use Rattle.wire.specs.declared.refusals.Refusal.TheVariants.{TooLarge};
 ghost use Rattle.answer.specs.Checked.{Checked};
 
+mod ledger;
+
+use crate::ledger::Ledger;
 use estate::cents_allowed;
+use shares::Shares;
 use std::io::Read;
 use std::rt::{Env, Files};
 use std::{env, fs, io};
-use wire::{Call, Calls, Garbled, Place, Refusal, TurnedAway};
+use wire::{Answer, Call, Calls, Garbled, Numbers, Place, Refusal, TurnedAway};
 
 // Turns a call away that is refused whatever the estate is, and hands on any other.
 fn checked(call: Result<Call, Garbled>) -> Result<Call, TurnedAway>
@@ -52,11 +56,31 @@ fn input(rt: &(impl Env + Files + Input + AllocGlobal)) -> io::Result<Vec<u8>> {
     Ok(bytes)
 }
 
+// Prints an answer as a line: `d 6: 200 200 200` where it is shares, else a number or a refusal.
+fn print(rt: &impl Print, answer: &Answer<Shares<'_>>) -> io::Result<()> {
+    match answer {
+        Answer::Refused(turned) => println!(rt; "{turned}"),
+        Answer::Number(n) => println!(rt; "{n}"),
+        Answer::Parts(d, shares) => {
+            print!(rt; "d {d}:")?;
+            for i in 0..shares.count() {
+                print!(rt; " {}", shares.at(i))?;
+            }
+            println!(rt; "")
+        }
+        Answer::Amounts(_) => println!(rt; "cents come later"),
+    }
+}
+
 fn run(rt: &(impl Env + Files + Input + Print + AllocGlobal)) -> anyhow::Result<()> {
     let calls = input(rt)?;
+    let mut ledger = Ledger::new(rt.alloc());
     for call in Calls(&calls) {
         match checked(call) {
-            Ok(_) => println!(rt; "not answered yet: a later version divides")?,
+            Ok(call) => match ledger.answer(rt.alloc(), call)? {
+                Some(answer) => print(rt, &answer)?,
+                None => println!(rt; "not answered yet: a later version gives cents")?,
+            },
             Err(refused) => println!(rt; "{refused}")?,
         }
     }

@@ -1,10 +1,12 @@
 -- Numbers to bytes and back. Assumes nothing.
-use Rattle.std.proofs.Common.{◌≡◌, ℕ, zero, suc, ◌+◌, ◌-◌, ◌*◌, ◌/◌, ◌%◌, ◌^◌, ◌<◌, ◌≤◌, List, [], ◌∷◌, ◌++◌, length, get_or, take, drop, sym, refl, ap, subst, arith, length-drop, take-append-drop}
+use Rattle.std.proofs.Common.{◌≡◌, ℕ, zero, suc, ◌+◌, ◌-◌, ◌*◌, ◌/◌, ◌%◌, ◌^◌, ◌<◌, ◌≤◌, List, [], ◌∷◌, ◌++◌, length, get_or, take, drop, sym, refl, ap, subst, arith, length-drop, length-take, append_assoc, length-append, take-append-drop}
+use borrow.Rule.Slice.PartMut.{put_mid}
 use Rattle.std.specs.Int.{w64, from_le_bytes}
 use Rattle.std.specs.List.{flat_map}
-use Rattle.std.proofs.lemmas.List.{places, drop-drop, length-take-le, nil_from_length}
+use Rattle.std.proofs.lemmas.List.{places, drop-drop, length-take-le, nil_from_length, take_more, take_all, drop_all, append-nil, take_at, drop_at, flat_map_more}
 use Rattle.std.proofs.lemmas.Nat.{le_bytes_8, from_le_bytes-to_le_bytes_8}
-use Rattle.std.proofs.lemmas.Grind.{common_steps}
+use Rattle.std.proofs.lemmas.Grind.{common_steps, flat_map-append}
+use Rattle.wire.specs.Written.{Stands}
 use Rattle.wire.specs.Bytes.{Bytes, Fitting, eight, number_at, numbers, row}
 
 pub bytes_take : (n : ℕ) (bs : List ℕ) → Bytes bs → Bytes (take n bs)
@@ -25,7 +27,7 @@ eight-number_at : (bs : List ℕ) → 8 ≤ length bs → Bytes bs → eight (nu
 unfolding eight
 eight-number_at bs some h = le_bytes_8 (take 8 bs) _ (length-take-le 8 bs some) (bytes_take 8 bs h) refl
 
-length-flat_map : (ns : List ℕ) → length (flat_map eight ns) ≡ 8 * length ns
+pub length-flat_map : (ns : List ℕ) → length (flat_map eight ns) ≡ 8 * length ns
 unfolding eight
 length-flat_map [] = refl
 length-flat_map (n ∷ ns) = omega (arith, length-flat_map ns)
@@ -61,6 +63,17 @@ module _ (bs : List ℕ) where
 
 pub ruleset steps = (numbers_more, numbers_none)
 
+flat_map-push : (ns : List ℕ) (n : ℕ) → flat_map eight (ns ++ n ∷ []) ≡ flat_map eight ns ++ eight n
+flat_map-push ns n = sym (flat_map_more eight [] ns n)
+
+-- the i-th number is written behind those before it
+pub put_more : (i n : ℕ) (ns before out bytes : List ℕ) → i < length ns → n ≡ get_or ns i 0 → bytes ≡ eight n → out ≡ flat_map eight (take i ns) ++ drop (8 * i) before → put_mid (8 * i) (8 * i + 8 - 8 * i) out bytes ≡ flat_map eight (take (i + 1) ns) ++ drop (8 * (i + 1)) before
+put_more i n ns before out bytes lt here eights h =
+    let width : 8 * i + 8 - 8 * i ≡ 8 = omega arith in
+    let long : length (flat_map eight (take i ns)) ≡ 8 * i = omega (arith, length-flat_map, length-take {A = ℕ}) in
+    let far : drop 8 (drop (8 * i) before) ≡ drop (8 * (i + 1)) before = simp drop-drop (ap (λ (a : ℕ). drop a before) (omega arith)) in
+    rw (h, width, eights, here, take_more ns i 0 lt, flat_map-push) (simp (take_at, drop_at, append_assoc, far))
+
 pub length-row : (k : ℕ) (ns : List ℕ) → length (row k ns) ≡ 1 + 8 * length ns
 unfolding row
 length-row k ns = omega (arith, length-flat_map ns)
@@ -69,7 +82,34 @@ pub get_or-row : (k : ℕ) (ns : List ℕ) → get_or (row k ns) 0 0 ≡ k
 unfolding row
 get_or-row k ns = refl
 
-pub ruleset rows = (length-row, get_or-row)
+pub ruleset rows = (length-flat_map, length-row, get_or-row)
+
+row-append : (k : ℕ) (hs ls : List ℕ) → row k (hs ++ ls) ≡ row k hs ++ flat_map eight ls
+unfolding row
+row-append k hs ls = ap (λ (l : List ℕ). k ∷ l) (flat_map-append eight hs ls)
+
+pub fitting_append : (hs ls : List ℕ) → Fitting hs → Fitting ls → Fitting (hs ++ ls)
+fitting_append hs ls h l i = grind (arith, places)
+
+-- a row stands, and numbers are written behind it
+module _ (k n m : ℕ) (hs ls before out part : List ℕ) (h : Stands (row k hs) before out n) (long : m ≡ length ls) (room : 1 + 8 * (length hs + m) ≤ length before) where
+  pub room_behind : 8 * length ls ≤ length (take (length out - n) (drop n out))
+  room_behind = grind (arith, places, rows, h.long, h.holds)
+
+  pub row_longer : part ≡ flat_map eight ls ++ drop (8 * length ls) (take (length out - n) (drop n out)) → Stands (row k (hs ++ ls)) before (put_mid n (length out - n) out part) (1 + 8 * (length hs + m))
+  row_longer e =
+      let front : take n out ≡ row k hs = rw h.holds (take_at (row k hs) (drop n before) n (sym h.long)) in
+      let back : drop n out ≡ drop n before = rw h.holds (drop_at (row k hs) (drop n before) n (sym h.long)) in
+      let all : take (length out - n) (drop n out) ≡ drop n out = take_all (length out - n) (drop n out) (omega (arith, length-drop n out)) in
+      let none : drop (length out - n) (drop n out) ≡ [] = drop_all (length out - n) (drop n out) (omega (arith, length-drop n out)) in
+      let far : drop (8 * length ls) (drop n before) ≡ drop (1 + 8 * (length hs + m)) before = simp drop-drop (ap (λ (a : ℕ). drop a before) (omega (arith, length-row k hs, h.long))) in
+      record {
+        long = omega (arith, length-row, length-append {A = ℕ});
+        room = room;
+        holds = rw (none, e, all, front, back, row-append, far) (simp (append_assoc, append-nil));
+      }
+
+pub ruleset behind = (room_behind, row_longer, fitting_append, length-row)
 
 -- what the bytes of a row tell, and that bytes of whole numbers are the row that they tell
 module _ (k : ℕ) (ns : List ℕ) (b : ℕ) (bs : List ℕ) where

@@ -8,10 +8,10 @@ ghost use Rattle.wire.specs.Written.{Sent};
 ghost use Rattle.wire.specs.declared.answers.DecodeError.TheVariants.{OutOfMemory};
 
 use crate::kinds::AnswerKind;
+use crate::numbers::Numbers;
 use crate::refusals::{Place, Refusal, TurnedAway};
-use crate::rows::{numbers_in, put};
+use crate::rows::{numbers_in, put, put_list};
 use std::alloc::{AllocError, Global};
-use std::convert::AsSlice;
 use std::error::Error;
 use std::fmt;
 
@@ -27,29 +27,24 @@ pub enum Answer<L> {
     Amounts(L),
 }
 
-impl<L: AsSlice<u64>> Answer<L> {
+impl<L: Numbers> Answer<L> {
     // Writes the answer at the start of lent bytes, and says how many it takes.
     pub fn encode(&self, out: &mut [u8]) -> Result<usize, Refusal>
         ensures { Sent (told L.items self.now) out.old out.new result }
     {
         match self {
             Answer::Refused(turned) => {
-                let head = [u64::from(turned.why), u64::from(turned.place)];
-                put(out, AnswerKind::Refused as u8, &head, &[])
+                let numbers = [u64::from(turned.why), u64::from(turned.place)];
+                put(out, AnswerKind::Refused as u8, &numbers)
             }
-            Answer::Number(n) => put(out, AnswerKind::Number as u8, &[*n], &[]),
+            Answer::Number(n) => put(out, AnswerKind::Number as u8, &[*n]),
             Answer::Parts(d, shares) => {
-                let shares = shares.as_slice();
-                put(
-                    out,
-                    AnswerKind::Parts as u8,
-                    &[*d, shares.len() as u64],
-                    shares,
-                )
+                let head = [*d, shares.count() as u64];
+                put_list(out, AnswerKind::Parts as u8, &head, shares)
             }
             Answer::Amounts(cents) => {
-                let cents = cents.as_slice();
-                put(out, AnswerKind::Amounts as u8, &[cents.len() as u64], cents)
+                let head = [cents.count() as u64];
+                put_list(out, AnswerKind::Amounts as u8, &head, cents)
             }
         }
     }

@@ -37,13 +37,13 @@ impl Call {
         ensures sendable { Sendable (meaning self) × (narrow (meaning self) ≡ meaning self) }
     {
         match self {
-            Call::Claim(cents) => put(out, CallKind::Claim as u8, &[cents], &[]),
+            Call::Claim(cents) => put(out, CallKind::Claim as u8, &[cents]),
             Call::Prove(place, cents) => {
-                put(out, CallKind::Prove as u8, &[u64::from(place), cents], &[])
+                put(out, CallKind::Prove as u8, &[u64::from(place), cents])
             }
-            Call::Come(cents) => put(out, CallKind::Come as u8, &[cents], &[]),
-            Call::Shares => put(out, CallKind::Shares as u8, &[], &[]),
-            Call::Cents => put(out, CallKind::Cents as u8, &[], &[]),
+            Call::Come(cents) => put(out, CallKind::Come as u8, &[cents]),
+            Call::Shares => put(out, CallKind::Shares as u8, &[]),
+            Call::Cents => put(out, CallKind::Cents as u8, &[]),
         }
     }
 

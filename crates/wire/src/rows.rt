@@ -3,6 +3,7 @@ ghost use Rattle.std.specs.Prelude.{◌≡◌, ◌+◌, ◌/◌, ◌≤◌, ◌+
 ghost use Rattle.wire.specs.Bytes.{Fitting, number_at, numbers, row};
 ghost use Rattle.wire.specs.Written.{Written};
 
+use crate::numbers::{Numbers, put_numbers};
 use crate::refusals::Refusal;
 use std::alloc::{AllocError, Global};
 
@@ -14,23 +15,39 @@ pub(crate) fn number_at(bytes: &[u8], at: usize) -> u64
     u64::from_le_bytes(*bytes[at..].first_chunk().unwrap())
 }
 
-// Writes a row: the byte of its kind, the numbers of its head and, behind them, those of its list. It takes the byte and not
-// a kind, since calls and answers have kinds of their own; `as u8` of a kind is its byte.
-#[tactic(auto, using(crate::proofs::Bytes::rows, std::proofs::lemmas::Grind::common_steps))]
-pub(crate) fn put(out: &mut [u8], kind: u8, head: &[u64], list: &[u64]) -> Result<usize, Refusal>
-    ensures written { Written (row kind (head.now ++ list.now)) out.old out.new result }
-    ensures fit { Fitting (head.now ++ list.now) }
+// Writes a row at the start of lent bytes: the byte of its kind, and numbers. It takes the byte and not a kind, since calls
+// and answers have kinds of their own; `as u8` of a kind is its byte.
+#[tactic(auto, using(crate::proofs::Bytes::rows, std::proofs::lemmas::Grind::common_steps), unfolding(crate::specs::Bytes::row))]
+pub(crate) fn put(out: &mut [u8], kind: u8, numbers: &[u64]) -> Result<usize, Refusal>
+    ensures written { Written (row kind numbers.now) out.old out.new result }
+    ensures fit { Fitting numbers.now }
 {
-    let end = 1 + 8 * (head.len() + list.len());
+    let end = 1 + 8 * numbers.len();
     if out.len() < end {
         return Err(Refusal::NotLent);
     }
     out[0] = kind;
-    // By index: of a slice lent out in mutable chunks a proof knows only the length afterwards, and while it is lent piece
-    // by piece (`split_first_chunk_mut`) an invariant has no word for what it holds.
-    for (i, n) in head.iter().chain(list).enumerate() {
-        out[1 + 8 * i..9 + 8 * i].copy_from_slice(&n.to_le_bytes());
+    put_numbers(&mut out[1..], &numbers);
+    Ok(end)
+}
+
+// The same with the numbers of a list behind them. The list is handed the part of the bytes where its numbers go.
+#[tactic(auto, using(crate::proofs::Bytes::behind, std::proofs::lemmas::Grind::common_steps))]
+pub(crate) fn put_list<L: Numbers>(
+    out: &mut [u8],
+    kind: u8,
+    head: &[u64],
+    list: &L,
+) -> Result<usize, Refusal>
+    ensures written { Written (row kind (head.now ++ L.items list.now)) out.old out.new result }
+    ensures fit { Fitting (head.now ++ L.items list.now) }
+{
+    let end = 1 + 8 * (head.len() + list.count());
+    if out.len() < end {
+        return Err(Refusal::NotLent);
     }
+    let start = put(out, kind, head)?;
+    put_numbers(&mut out[start..], list);
     Ok(end)
 }
 

@@ -1,0 +1,4 @@
+pub mod Words
+pub mod EachTwo
+pub mod Divided
+pub mod Carried

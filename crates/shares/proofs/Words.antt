@@ -1,0 +1,23 @@
+-- Shares in words. Assumes nothing.
+use Rattle.std.proofs.Common.{◌≡◌, ℕ, zero, suc, ◌+◌, ◌<◌, ◌≤◌, List, [], ◌∷◌, ◌++◌, map, length, get_or, take, drop, slice_set, ap, sym, ◌∙◌, arith}
+use native.Mathlib.Numerals.{unary_clauses}
+use Rattle.std.proofs.lemmas.List.{length-map, get_or-map}
+use Rattle.level.specs.declared.closed.Terms.{Terms}
+use Rattle.wire.specs.Bytes.{Fitting}
+use Rattle.shares.specs.Shares.{share_word}
+
+pub fits : (t : Terms) (cs : List ℕ) → Fitting (map (share_word t) cs)
+fits t [] i = omega arith
+fits t (c ∷ cs) zero = omega arith
+fits t (c ∷ cs) (suc i) = fits t cs i
+
+-- the i-th is written behind those before it
+put_more : (i n : ℕ) (ns before : List ℕ) → i < length ns → length ns ≤ length before → n ≡ get_or ns i 0 → slice_set (take i ns ++ drop i before) i n ≡ take (suc i) ns ++ drop (suc i) before
+put_more i n [] before lt room e = absurd (omega arith)
+put_more i n (m ∷ ms) [] lt room e = absurd (omega arith)
+put_more zero n (m ∷ ms) (b ∷ bs) lt room e = ap (λ x. x ∷ bs) e
+put_more (suc i) n (m ∷ ms) (b ∷ bs) lt room e = ap (λ l. m ∷ l) (put_more i n ms bs (omega arith) (omega arith) e)
+
+pub share_more : (i x : ℕ) (t : Terms) (cs before out : List ℕ) → i < length cs → length cs ≤ length before → x ≡ share_word t (get_or cs i 0) → out ≡ take i (map (share_word t) cs) ++ drop i before → slice_set out i x ≡ take (i + 1) (map (share_word t) cs) ++ drop (i + 1) before
+share_more i x t cs before out lt room e h =
+    simp unary_clauses (rw h (put_more i x (map (share_word t) cs) before (omega (arith, length-map cs (share_word t))) (omega (arith, length-map cs (share_word t))) (e ∙ sym (get_or-map (share_word t) cs i 0 0 lt))))

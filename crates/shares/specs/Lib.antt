@@ -1,0 +1,3 @@
+pub mod Shares
+pub mod Pairs
+pub mod Laws
