@@ -1,6 +1,7 @@
 // Estates with their shares, worked out by hand: as words and as the bytes of an answer.
 use level::{Fraction, Side, Terms, terms_of};
 use shares::{Shares, check, share};
+use std::process::Abort;
 use std::test::Fail;
 use wire::{Answer, Refusal};
 
@@ -60,20 +61,27 @@ fn shares_as_bytes(rt: HostRuntime) -> Result<(), Fail> {
 const SAID: &[u8] = b"\x02\x06\0\0\0\0\0\0\0\x03\0\0\0\0\0\0\0\
     \xc8\0\0\0\0\0\0\0\xc8\0\0\0\0\0\0\0\xc8\0\0\0\0\0\0\0";
 
+// The answer has these bytes, what lies behind stays, and where a byte is wanting nothing is written.
+fn said(rt: &impl Abort, shares: Shares<'_>, row: &[u8]) {
+    let len = row.len();
+    assert!(rt; 0 < len && len <= 48);
+    let mut out = [170u8; 48];
+    assert_eq!(rt; shares.answer().encode(&mut out), Ok(len));
+    assert!(rt; &out[0..len] == row);
+    assert!(rt; out[len..48] == [170u8; 48][len..48]);
+    let mut short = [170u8; 48];
+    assert_eq!(rt;
+        shares.answer().encode(&mut short[0..len - 1]),
+        Err(Refusal::NotLent)
+    );
+    assert!(rt; short == [170u8; 48]);
+}
+
 #[test]
 fn bytes_of_an_answer(rt: HostRuntime) -> Result<(), Fail> {
     let terms = terms_of(100, &[100, 200, 300]).ok_or("no terms")?;
-    let shares = Shares {
-        terms,
-        claims: &[300, 200, 100],
-    };
-    let mut out = [170u8; 48];
-    assert_eq!(rt; shares.answer().encode(&mut out), Ok(41));
-    assert!(rt; &out[..41] == SAID);
-    assert!(rt; out[41..] == [170u8; 7]);
-    let mut short = [170u8; 40];
-    assert_eq!(rt; shares.answer().encode(&mut short), Err(Refusal::NotLent));
-    assert!(rt; short == [170u8; 40]);
+    let claims = &[300, 200, 100];
+    said(&rt, Shares { terms, claims }, SAID);
     Ok(())
 }
 
