@@ -7,7 +7,7 @@ use Rattle.estate.specs.Two.{plainly}
 use Rattle.estate.specs.Division.{divides, Agrees}
 use Rattle.estate.proofs.Facts.{facts, from_facts}
 use Rattle.shares.specs.Pairs.{fair_at, FirstUnfair, Verdict}
-use Rattle.shares.specs.Laws.{AcceptsDivisions, OnlyDivisions, OneVerdict}
+use Rattle.shares.specs.Laws.{AcceptsDivisions, OnlyDivisions, NobodyAbove, OneVerdict}
 use Rattle.shares.specs.declared.pairs.Fault.{Fault}
 use Rattle.shares.specs.declared.pairs.Fault.TheVariants.{Unpaired, NoParts, Pair, Alone}
 
@@ -57,6 +57,9 @@ accepts_divisions d e cs xs r v h =
 
 pub only_divisions : OnlyDivisions
 only_divisions d e cs xs v w = from_facts d e cs xs (agrees d cs xs v e w)
+
+pub nobody_above : NobodyAbove
+nobody_above d i cs xs v = below d cs xs v i
 
 pub one_verdict : OneVerdict
 one_verdict d cs xs r s v w = grind (arith, told d cs xs r v, told d cs xs s w, one_pair, both_ways, two)

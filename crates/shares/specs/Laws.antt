@@ -1,6 +1,6 @@
 -- What is true of the shares that are written, and of those that are checked. The contracts of `Shares::write` and `check`
 -- name each. Assumes nothing.
-use Rattle.std.specs.Prelude.{◌≡◌, ℕ, suc, ◌*◌, ◌^◌, ◌<◌, ◌≤◌, true, List, map, length, All, Some, Ok, Result, sum}
+use Rattle.std.specs.Prelude.{◌≡◌, ℕ, suc, ◌*◌, ◌^◌, ◌<◌, ◌≤◌, true, List, map, length, All, Some, Ok, Result, slice_index, sum}
 use Rattle.std.specs.List.Sorted.{IsNonDecreasing}
 use Rattle.estate.specs.Order.{SameClaims}
 use Rattle.estate.specs.Calls.{shares}
@@ -50,6 +50,11 @@ AcceptsDivisions =
 abbrev pub OnlyDivisions : Type 0
 OnlyDivisions =
     (d e : ℕ) (cs xs : List ℕ) → Verdict d cs xs (Ok tt) → sum xs ≡ d * e → divides d e cs xs ≡ true
+
+-- and nobody has more than it claims, whatever the shares come to
+abbrev pub NobodyAbove : Type 0
+NobodyAbove =
+    (d i : ℕ) (cs xs : List ℕ) → Verdict d cs xs (Ok tt) → slice_index xs i ≤ d * slice_index cs i
 
 -- one answer fits
 abbrev pub OneVerdict : Type 0

@@ -1,6 +1,6 @@
 // Whether given shares divide, by a look at each two creditors. Nothing here finds a share, or knows of a level.
 ghost use Rattle.std.specs.Prelude.{◌≡◌, Some, length};
-ghost use Rattle.shares.specs.Laws.{SharesPass, AcceptsDivisions, OnlyDivisions, OneVerdict};
+ghost use Rattle.shares.specs.Laws.{SharesPass, AcceptsDivisions, OnlyDivisions, NobodyAbove, OneVerdict};
 ghost use Rattle.shares.specs.Pairs.{fair, fault_text, Searched, Verdict};
 
 use std::error::Error;
@@ -72,6 +72,7 @@ pub fn check(d: u64, claims: &[u64], shares: &[u64]) -> Result<(), Fault>
     ensures shares_pass { SharesPass }
     ensures accepts_divisions { AcceptsDivisions }
     ensures only_divisions { OnlyDivisions }
+    ensures nobody_above { NobodyAbove }
     ensures one_verdict { OneVerdict }
 {
     if shares.len() != claims.len() {

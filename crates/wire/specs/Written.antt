@@ -1,4 +1,4 @@
--- What writing leaves in lent bytes. Assumes nothing.
+-- What writing leaves in lent memory. Assumes nothing.
 use Rattle.std.specs.Prelude.{◌≡◌, ℕ, ◌<◌, ◌≤◌, List, ◌++◌, length, drop, Ok, Err, Result}
 use Rattle.estate.specs.Answers.{Answer}
 use Rattle.wire.specs.Answers.{answer_row, Sendable}
