@@ -1,9 +1,11 @@
 // What the program keeps between calls, until there is a desk: what is there, and the claims as they came.
-ghost use Rattle.std.specs.Prelude.{◌≡◌, ◌<◌, ◌≤◌, ◌⊎◌, OnOk, OnErr, IfErr, MatchOption};
+ghost use Rattle.std.specs.Prelude.{◌≡◌, ◌<◌, ◌≤◌, ◌⊎◌, ◌≢◌, IfSome, OnOk, OnErr, IfErr, MatchOption};
+ghost use Rattle.std.specs.List.Sorted.{IsPermutation, IsSorted};
+ghost use Rattle.std.specs.Ordering.{nat_cmp};
 ghost use Rattle.estate.specs.Estates.{Within};
 ghost use Rattle.estate.specs.Limits.{most_cents};
 ghost use Rattle.wire.specs.declared.refusals.Refusal.TheVariants.{TooLarge};
-ghost use Rattle.answer.specs.Kept.{served, kept};
+ghost use Rattle.answer.specs.Kept.{limits, estate_in};
 
 use estate::{MOST_THERE, cents_allowed};
 use level::{Terms, terms_of};
@@ -19,15 +21,15 @@ pub(crate) struct Ledger {
     // how many of the words are claims
     count: usize,
     words: [u64; MOST_CREDITORS],
-    ghost few: { count ≤ served.creditors },
-    ghost within: { Within (kept there count words) },
+    ghost few: { count ≤ limits.creditors },
+    ghost within: { Within (estate_in there count words) },
 }
 
 impl Ledger {
     ghost use Rattle.std.specs.Borrow.{sem};
     ghost use Rattle.estate.specs.Calls.{claims, proves, comes, shares, cents};
     ghost use Rattle.estate.specs.Changes.{after};
-    ghost use Rattle.estate.specs.Estates.{new_estate};
+    ghost use Rattle.estate.specs.Estates.{new_estate, counted};
     ghost use Rattle.estate.specs.Right.{answered};
     ghost use Rattle.shares.specs.Laws.{Divided};
     ghost use Rattle.shares.specs.Shares.{shares_of};
@@ -47,42 +49,46 @@ impl Ledger {
     // Does what a call asks for, and answers it; none where it asks for cents, which come later.
     pub(crate) fn answer(&mut self, call: Result<Call, Garbled>) -> Option<Answer<Shares<'_>>>
         ensures said { MatchOption result (heard call ≡ cents) (λ a. told shares_of a
-            ≡ answered served (estate_of self.old) (heard call)) }
+            ≡ answered limits (estate_of self.old) (heard call)) }
+        ensures none { IfSome result (λ _. heard call ≢ cents) }
         ensures* after { sem 𝓛 (Leaves self.entry (heard call)) }
     {
         let done = self.change(call);
         Some(match (call, done) {
-            (Ok(Call::Shares), _) => self.shares(),
-            (Ok(Call::Cents), _) => return None,
-            (_, Ok(n)) => Answer::Number(n),
-            (_, Err(turned)) => Answer::Refused(turned),
+            (_, Some(Ok(n))) => Answer::Number(n),
+            (_, Some(Err(turned_away))) => Answer::Refused(turned_away),
+            (Ok(Call::Shares), None) => self.shares(),
+            (_, None) => return None,
         })
     }
 
-    // Does what a call asks for, and gives the number that is answered. Shares and cents change nothing and are no number:
-    // their 0 is not read.
-    fn change(&mut self, call: Result<Call, Garbled>) -> Result<u64, TurnedAway>
-        ensures said { (outcome result ≡ answered served (estate_of self.old) (heard call))
-            ⊎ ((heard call ≡ shares) ⊎ (heard call ≡ cents)) }
-        ensures after { estate_of self.new ≡ after served (estate_of self.old) (heard call) }
+    // Does what a call asks for, and gives the number that is answered; none for shares and cents, which change nothing.
+    fn change(&mut self, call: Result<Call, Garbled>) -> Option<Result<u64, TurnedAway>>
+        ensures none { MatchOption result ((heard call ≡ shares) ⊎ (heard call ≡ cents))
+            (λ _. (heard call ≢ shares) × (heard call ≢ cents)) }
+        ensures said { IfSome result (λ r. outcome r
+            ≡ answered limits (estate_of self.old) (heard call)) }
+        ensures after { estate_of self.new
+            ≡ after limits (estate_of self.old) (heard call) }
     {
-        match call? {
-            Call::Claim(cents) => self.claim(cents),
-            Call::Prove(place, cents) => self.prove(place, cents),
-            Call::Come(cents) => self.come(cents),
-            Call::Shares | Call::Cents => Ok(0),
-        }
+        Some(match call {
+            Ok(Call::Claim(cents)) => self.claim(cents),
+            Ok(Call::Prove(place, cents)) => self.prove(place, cents),
+            Ok(Call::Come(cents)) => self.come(cents),
+            Ok(Call::Shares | Call::Cents) => return None,
+            Err(garbled) => Err(garbled.into()),
+        })
     }
 
     #[tactic(auto, unfolding(estate::specs::Right::says))]
     fn claim(&mut self, cents: u64) -> Result<u64, TurnedAway>
-        ensures said { outcome result ≡ answered served (estate_of self.old) (claims cents) }
-        ensures after { estate_of self.new ≡ after served (estate_of self.old) (claims cents) }
+        ensures said { outcome result ≡ answered limits (estate_of self.old) (claims cents) }
+        ensures after { estate_of self.new ≡ after limits (estate_of self.old) (claims cents) }
     {
         few_enough(cents, 0)?;
         let place = self.count;
         if place >= MOST_CREDITORS {
-            return Err(turned(Refusal::NoRoom, 0));
+            return Err(refused(Refusal::NoRoom));
         }
         self.words[place] = cents;
         self.count += 1;
@@ -91,14 +97,14 @@ impl Ledger {
 
     #[tactic(auto, using(crate::proofs::Kept::written, std::proofs::lemmas::Grind::common_steps), unfolding(estate::specs::Right::says))]
     fn prove(&mut self, place: Place, cents: u64) -> Result<u64, TurnedAway>
-        ensures said { outcome result ≡ answered served (estate_of self.old) (proves place cents) }
+        ensures said { outcome result ≡ answered limits (estate_of self.old) (proves place cents) }
         ensures after { estate_of self.new
-            ≡ after served (estate_of self.old) (proves place cents) }
+            ≡ after limits (estate_of self.old) (proves place cents) }
     {
         few_enough(cents, 1)?;
         let at = place as usize;
         if at >= self.count {
-            return Err(turned(Refusal::NotThere, 0));
+            return Err(refused(Refusal::NotThere));
         }
         self.words[at] = cents;
         Ok(u64::from(place))
@@ -106,33 +112,42 @@ impl Ledger {
 
     #[tactic(auto, unfolding(estate::specs::Right::says))]
     fn come(&mut self, cents: u64) -> Result<u64, TurnedAway>
-        ensures said { outcome result ≡ answered served (estate_of self.old) (comes cents) }
-        ensures after { estate_of self.new ≡ after served (estate_of self.old) (comes cents) }
+        ensures said { outcome result ≡ answered limits (estate_of self.old) (comes cents) }
+        ensures after { estate_of self.new ≡ after limits (estate_of self.old) (comes cents) }
     {
         few_enough(cents, 0)?;
         let there = self.there + cents;
         if there > MOST_THERE {
-            return Err(turned(Refusal::NoRoom, 0));
+            return Err(refused(Refusal::NoRoom));
         }
         self.there = there;
         Ok(there)
     }
 
     fn shares(&self) -> Answer<Shares<'_>>
-        ensures { told shares_of result ≡ answered served (estate_of self.now) shares }
+        ensures { told shares_of result ≡ answered limits (estate_of self.now) shares }
     {
         let terms = self.terms();
         let claims = &self.words[..self.count];
         Shares { terms, claims }.answer()
     }
 
-    // The terms on which what is there is divided: they are found among the claims in ascending order.
+    // The terms on which what is there is divided.
     fn terms(&self) -> Terms
         ensures { Divided (estate_of self.now) result }
     {
         let mut words = self.words;
         let in_order = &mut words[..self.count];
         in_order.sort_unstable();
+        self.terms_among(in_order)
+    }
+
+    // They are found among the claims in ascending order.
+    fn terms_among(&self, in_order: &[u64]) -> Terms
+        requires same { IsPermutation (counted (estate_of self.now)) in_order.now }
+        requires rising { IsSorted nat_cmp in_order.now }
+        ensures { Divided (estate_of self.now) result }
+    {
         terms_of(self.there, in_order).unwrap()
     }
 }
@@ -146,12 +161,16 @@ fn few_enough(cents: u64, place: Place) -> Result<(), TurnedAway>
     if cents_allowed(cents) {
         Ok(())
     } else {
-        Err(turned(Refusal::TooLarge, place))
+        Err(TurnedAway {
+            why: Refusal::TooLarge,
+            place,
+        })
     }
 }
 
-fn turned(why: Refusal, place: Place) -> TurnedAway
-    ensures { (result.why ≡ why) × (result.place ≡ place) }
+// Of a call that no number of is too large the place is 0.
+fn refused(why: Refusal) -> TurnedAway
+    ensures { (result.why ≡ why) × (result.place ≡ 0) }
 {
-    TurnedAway { why, place }
+    TurnedAway { why, place: 0 }
 }

@@ -4,11 +4,11 @@
 mod ledger;
 
 use crate::ledger::Ledger;
-use shares::Shares;
+use shares::{Shares, share};
 use std::io::Read;
 use std::rt::{Env, Files};
 use std::{env, fs, io};
-use wire::{Answer, Calls, Numbers};
+use wire::{Answer, Calls};
 
 // The bytes of the file that the first argument names, or of standard input.
 fn input(rt: &(impl Env + Files + Input + AllocGlobal)) -> io::Result<Vec<u8>> {
@@ -21,18 +21,20 @@ fn input(rt: &(impl Env + Files + Input + AllocGlobal)) -> io::Result<Vec<u8>> {
 }
 
 // Prints an answer as a line: `d 6: 200 200 200` where it is shares, else a number or a refusal.
-fn print(rt: &impl Print, answer: &Answer<Shares<'_>>) -> io::Result<()> {
+fn print(rt: &impl Print, answer: Option<Answer<Shares<'_>>>) -> io::Result<()> {
     match answer {
-        Answer::Refused(turned) => println!(rt; "{turned}"),
-        Answer::Number(n) => println!(rt; "{n}"),
-        Answer::Parts(d, shares) => {
+        Some(Answer::Refused(turned_away)) => println!(rt; "{turned_away}"),
+        Some(Answer::Number(n)) => println!(rt; "{n}"),
+        Some(Answer::Parts(d, Shares { terms, claims })) => {
             print!(rt; "d {d}:")?;
-            for i in 0..shares.count() {
-                print!(rt; " {}", shares.at(i))?;
+            for claim in claims {
+                print!(rt; " {}", share(terms, *claim))?;
             }
             println!(rt; "")
         }
-        Answer::Amounts(_) => println!(rt; "cents come later"),
+        Some(Answer::Amounts(_)) | None => {
+            println!(rt; "not answered yet: a later version gives cents")
+        }
     }
 }
 
@@ -40,10 +42,7 @@ fn run(rt: &(impl Env + Files + Input + Print + AllocGlobal)) -> anyhow::Result<
     let calls = input(rt)?;
     let mut ledger = Ledger::new();
     for call in Calls(&calls) {
-        match ledger.answer(call) {
-            Some(answer) => print(rt, &answer)?,
-            None => println!(rt; "not answered yet: a later version gives cents")?,
-        }
+        print(rt, ledger.answer(call))?;
     }
     Ok(())
 }

@@ -1,25 +1,24 @@
--- Shares of which each two are fair, and divisions. Assumes nothing.
-use Rattle.std.proofs.Common.{◌≡◌, ℕ, ◌+◌, ◌*◌, ◌<◌, ◌≤◌, ◌⊎◌, inl, inr, true, List, length, Ok, Err, Result, get_or, refl, arith, sum}
+-- Shares that each two divide as two do, and divisions. Assumes nothing.
+use Rattle.std.proofs.Common.{◌≡◌, ℕ, ◌+◌, ◌*◌, ◌<◌, ◌≤◌, ◌⊎◌, inl, inr, true, List, length, Ok, Err, get_or, refl, arith, sum}
 use Rattle.std.proofs.lemmas.List.{get_or_past}
 use Rattle.std.proofs.lemmas.Bool.{both_ways}
 use Rattle.std.proofs.lemmas.Bool.Decides.{nat_tests}
 use Rattle.estate.specs.Two.{plainly}
 use Rattle.estate.specs.Division.{divides, Agrees}
 use Rattle.estate.proofs.Facts.{facts, from_facts}
-use Rattle.shares.specs.Pairs.{fair_at, FirstUnfair, Verdict}
+use Rattle.shares.specs.Pairs.{is_fair_at, FirstUnfair, Answered, Verdict}
 use Rattle.shares.specs.Laws.{AcceptsDivisions, OnlyDivisions, NobodyAbove, OneVerdict}
-use Rattle.shares.specs.declared.pairs.Fault.{Fault}
 use Rattle.shares.specs.declared.pairs.Fault.TheVariants.{Unpaired, NoParts, Pair, Alone}
 
 module _ (d : ℕ) (cs xs : List ℕ) where
-  all_fair : (e : ℕ) → divides d e cs xs ≡ true → (i j : ℕ) → fair_at d cs xs i j ≡ true
+  all_fair : (e : ℕ) → divides d e cs xs ≡ true → (i j : ℕ) → is_fair_at d cs xs i j ≡ true
   all_fair e h i j =
       let p = facts d e cs xs h in
       grind (arith, nat_tests, p.below i, p.below j, p.plain i j)
 
   -- what is accepted; of each list the numbers past its end are zero
   module _ (v : Verdict d cs xs (Ok tt)) where
-    two : (i j : ℕ) → i < j → j < length cs → fair_at d cs xs i j ≡ true
+    two : (i j : ℕ) → i < j → j < length cs → is_fair_at d cs xs i j ≡ true
     two i j h k = v.1 i (omega arith) j h k
 
     below : (i : ℕ) → get_or xs i 0 ≤ d * get_or cs i 0
@@ -35,7 +34,7 @@ module _ (d : ℕ) (cs xs : List ℕ) where
   one_pair i j k l f g = grind (arith, both_ways, f.lower k, g.lower i, f.same l, g.same j)
 
   -- which answer it is, and what is so then
-  abbrev Told : Result (Unit {0}) Fault → Type 0
+  abbrev Told : Answered → Type 0
   Told r =
       ((r ≡ Err Unpaired) × Verdict d cs xs (Err Unpaired))
       ⊎ (((r ≡ Err NoParts) × Verdict d cs xs (Err NoParts))
@@ -43,7 +42,7 @@ module _ (d : ℕ) (cs xs : List ℕ) where
       ⊎ (((r ≡ Err Alone) × Verdict d cs xs (Err Alone))
       ⊎ ((r ≡ Ok tt) × Verdict d cs xs (Ok tt)))))
 
-  told : (r : Result (Unit {0}) Fault) → Verdict d cs xs r → Told r
+  told : (r : Answered) → Verdict d cs xs r → Told r
   told (Err Unpaired) v = inl (refl, v)
   told (Err NoParts) v = inr (inl (refl, v))
   told (Err (Pair i j)) v = inr (inr (inl (i, j, refl, v)))

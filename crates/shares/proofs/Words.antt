@@ -2,6 +2,7 @@
 use Rattle.std.proofs.Common.{◌≡◌, ℕ, zero, suc, ◌+◌, ◌<◌, ◌≤◌, List, [], ◌∷◌, ◌++◌, map, length, get_or, take, drop, slice_set, ap, sym, ◌∙◌, arith}
 use native.Mathlib.Numerals.{unary_clauses}
 use Rattle.std.proofs.lemmas.List.{length-map, get_or-map}
+use Rattle.std.proofs.lemmas.Option.{slice_get-map}
 use Rattle.level.specs.declared.closed.Terms.{Terms}
 use Rattle.wire.specs.Bytes.{Fitting}
 use Rattle.shares.specs.Shares.{share_word}
@@ -21,3 +22,5 @@ put_more (suc i) n (m ∷ ms) (b ∷ bs) lt room e = ap (λ l. m ∷ l) (put_mor
 pub share_more : (i x : ℕ) (t : Terms) (cs before out : List ℕ) → i < length cs → length cs ≤ length before → x ≡ share_word t (get_or cs i 0) → out ≡ take i (map (share_word t) cs) ++ drop i before → slice_set out i x ≡ take (i + 1) (map (share_word t) cs) ++ drop (i + 1) before
 share_more i x t cs before out lt room e h =
     simp unary_clauses (rw h (put_more i x (map (share_word t) cs) before (omega (arith, length-map cs (share_word t))) (omega (arith, length-map cs (share_word t))) (e ∙ sym (get_or-map (share_word t) cs i 0 0 lt))))
+
+pub ruleset get = (slice_get-map)

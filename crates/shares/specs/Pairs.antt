@@ -6,25 +6,25 @@ use Rattle.shares.specs.declared.pairs.Fault.TheVariants.{Unpaired, NoParts, Pai
 
 -- Two who claim c and k cents, and have a and b d-ths of a cent, have no more than they claim together, and divide it as two
 -- do.
-abbrev pub fair : ℕ → ℕ → ℕ → ℕ → ℕ → Bool
-fair d c k a b = nat_le (a + b) (d * c + d * k) && as_two (a + b) (d * c) (d * k) a
+abbrev pub is_fair : ℕ → ℕ → ℕ → ℕ → ℕ → Bool
+is_fair d c k a b = nat_le (a + b) (d * c + d * k) && as_two (a + b) (d * c) (d * k) a
 
 -- so do those at two places
-abbrev pub fair_at : ℕ → List ℕ → List ℕ → ℕ → ℕ → Bool
-fair_at d cs xs i j = fair d (slice_index cs i) (slice_index cs j) (slice_index xs i) (slice_index xs j)
+abbrev pub is_fair_at : ℕ → List ℕ → List ℕ → ℕ → ℕ → Bool
+is_fair_at d cs xs i j = is_fair d (slice_index cs i) (slice_index cs j) (slice_index xs i) (slice_index xs j)
 
 -- and each two of whom the lower place is below n
 abbrev pub FairBelow : ℕ → List ℕ → List ℕ → ℕ → Type 0
-FairBelow d cs xs n = (i : ℕ) → i < n → (j : ℕ) → i < j → j < length cs → fair_at d cs xs i j ≡ true
+FairBelow d cs xs n = (i : ℕ) → i < n → (j : ℕ) → i < j → j < length cs → is_fair_at d cs xs i j ≡ true
 
 -- The two at i and j are the first that do not: those before them have a lower place that is lower, or the same and a
 -- higher place that is lower.
 pub record FirstUnfair (d : ℕ) (cs xs : List ℕ) (i j : ℕ) : Type 0 where
   pub order : i < j
   pub there : j < length cs
-  pub unfair : fair_at d cs xs i j ≡ false
+  pub unfair : is_fair_at d cs xs i j ≡ false
   pub lower : FairBelow d cs xs i
-  pub same : (k : ℕ) → i < k → k < j → fair_at d cs xs i k ≡ true
+  pub same : (k : ℕ) → i < k → k < j → is_fair_at d cs xs i k ≡ true
 
 -- what a search for them finds
 abbrev pub Searched : ℕ → List ℕ → List ℕ → Option (ℕ × ℕ) → Type 0
@@ -39,8 +39,11 @@ InParts d cs xs = (length xs ≡ length cs) × (0 < d)
 abbrev pub AloneAbove : ℕ → List ℕ → List ℕ → Type 0
 AloneAbove d cs xs = (length cs ≡ 1) × (d * slice_index cs 0 < slice_index xs 0)
 
+abbrev pub Answered : Type 0
+Answered = Result (Unit {0}) Fault
+
 -- What is answered. With two creditors or more nobody can have more than it claims when each two are fair.
-abbrev pub Verdict : ℕ → List ℕ → List ℕ → Result (Unit {0}) Fault → Type 0
+abbrev pub Verdict : ℕ → List ℕ → List ℕ → Answered → Type 0
 Verdict d cs xs (Err Unpaired) = length xs ≢ length cs
 Verdict d cs xs (Err NoParts) = (length xs ≡ length cs) × (d ≡ 0)
 Verdict d cs xs (Err (Pair i j)) = InParts d cs xs × FirstUnfair d cs xs i j

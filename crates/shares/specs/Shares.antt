@@ -12,6 +12,9 @@ parts_word t = held (parts_of t)
 abbrev pub share_word : Terms → ℕ → ℕ
 share_word t c = held (share_by t c)
 
--- what each claim gets
+-- what each claim gets, in the order of the claims
+abbrev pub shares_on : Terms → List ℕ → List ℕ
+shares_on t cs = map (share_word t) cs
+
 abbrev pub shares_of : Shares → List ℕ
-shares_of s = map (share_word s.terms) s.claims.now
+shares_of s = shares_on s.terms s.claims.now

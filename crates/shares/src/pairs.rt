@@ -1,7 +1,7 @@
-// Whether given shares divide, by a look at each two creditors. Nothing here finds a share, or knows of a level.
+// Whether given shares divide, by a look at each two creditors. No code here finds a share.
 ghost use Rattle.std.specs.Prelude.{◌≡◌, Some, length};
 ghost use Rattle.shares.specs.Laws.{SharesPass, AcceptsDivisions, OnlyDivisions, NobodyAbove, OneVerdict};
-ghost use Rattle.shares.specs.Pairs.{fair, fault_text, Searched, Verdict};
+ghost use Rattle.shares.specs.Pairs.{is_fair, fault_text, Searched, Verdict};
 
 use std::error::Error;
 use std::fmt;
@@ -26,6 +26,7 @@ impl fmt::Display for Fault {
         match self {
             Fault::Unpaired => write!(f, "not one share for each claim"),
             Fault::NoParts => write!(f, "a cent has no parts"),
+            // the places alone, as who checks a division wants them
             Fault::Pair(i, j) => write!(f, "{i} and {j}"),
             Fault::Alone => write!(f, "the only creditor has more than it claims"),
         }
@@ -34,10 +35,10 @@ impl fmt::Display for Fault {
 
 impl Error for Fault {}
 
-// Whether two, who claim c and k cents and have a and b d-ths of a cent, have no more than they claim together, and divide
-// it as two do. No number here passes 128 bits; what they claim together might.
-fn fair(d: u64, c: u64, k: u64, a: u64, b: u64) -> bool
-    ensures { result ≡ fair d c k a b }
+// Whether two divide as two do, who claim c and k cents and have a and b d-ths of a cent. No number here passes 128 bits;
+// what they claim together might, and is not made.
+fn is_fair(d: u64, c: u64, k: u64, a: u64, b: u64) -> bool
+    ensures { result ≡ is_fair d c k a b }
 {
     let first = u128::from(d) * u128::from(c);
     let second = u128::from(d) * u128::from(k);
@@ -56,7 +57,7 @@ fn first_unfair(d: u64, claims: &[u64], shares: &[u64]) -> Option<(usize, usize)
     let mut found = None;
     'pairs: for i in 0..claims.len() {
         for j in i + 1..claims.len() {
-            if !fair(d, claims[i], claims[j], shares[i], shares[j]) {
+            if !is_fair(d, claims[i], claims[j], shares[i], shares[j]) {
                 found = Some((i, j));
                 break 'pairs;
             }

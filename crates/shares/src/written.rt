@@ -43,8 +43,10 @@ impl Numbers for Shares<'_> {
         self.claims.len()
     }
 
-    fn at(&self, i: usize) -> u64 {
-        share(self.terms, self.claims[i])
+    #[tactic(auto, using(crate::proofs::Words::get))]
+    fn get(&self, i: usize) -> Option<u64> {
+        let claim = self.claims.get(i)?;
+        Some(share(self.terms, *claim))
     }
 }
 

@@ -57,12 +57,12 @@ fn shares_as_bytes(rt: HostRuntime) -> Result<(), Fail> {
     Ok(())
 }
 
-// The answer to the call for shares of 100 cents among 100, 200 and 300: its kind, 6 parts, 3 shares, 200 each.
-const SAID: &[u8] = b"\x02\x06\0\0\0\0\0\0\0\x03\0\0\0\0\0\0\0\
-    \xc8\0\0\0\0\0\0\0\xc8\0\0\0\0\0\0\0\xc8\0\0\0\0\0\0\0";
+// The answer to the call for shares of 400 cents among 300, 100 and 200: its kind, 4 parts, 3 shares: 900, 200 and 500.
+const ROW: &[u8] = b"\x02\x04\0\0\0\0\0\0\0\x03\0\0\0\0\0\0\0\
+    \x84\x03\0\0\0\0\0\0\xc8\0\0\0\0\0\0\0\xf4\x01\0\0\0\0\0\0";
 
 // The answer has these bytes, what lies behind stays, and where a byte is wanting nothing is written.
-fn said(rt: &impl Abort, shares: Shares<'_>, row: &[u8]) {
+fn assert_row(rt: &impl Abort, shares: Shares<'_>, row: &[u8]) {
     let len = row.len();
     assert!(rt; 0 < len && len <= 48);
     let mut out = [170u8; 48];
@@ -79,9 +79,9 @@ fn said(rt: &impl Abort, shares: Shares<'_>, row: &[u8]) {
 
 #[test]
 fn bytes_of_an_answer(rt: HostRuntime) -> Result<(), Fail> {
-    let terms = terms_of(100, &[100, 200, 300]).ok_or("no terms")?;
-    let claims = &[300, 200, 100];
-    said(&rt, Shares { terms, claims }, SAID);
+    let terms = terms_of(400, &[100, 200, 300]).ok_or("no terms")?;
+    let claims = &[300, 100, 200];
+    assert_row(&rt, Shares { terms, claims }, ROW);
     Ok(())
 }
 

@@ -1,12 +1,12 @@
 -- Numbers to bytes and back. Assumes nothing.
-use Rattle.std.proofs.Common.{◌≡◌, ℕ, zero, suc, ◌+◌, ◌-◌, ◌*◌, ◌/◌, ◌%◌, ◌^◌, ◌<◌, ◌≤◌, List, [], ◌∷◌, ◌++◌, length, get_or, take, drop, sym, refl, ap, subst, arith, length-drop, length-take, append_assoc, length-append, take-append-drop}
+use Rattle.std.proofs.Common.{◌≡◌, ℕ, zero, suc, ◌+◌, ◌-◌, ◌*◌, ◌/◌, ◌%◌, ◌^◌, ◌<◌, ◌≤◌, List, [], ◌∷◌, ◌++◌, length, get_or, take, drop, slice_set, Some, None, sym, refl, ap, subst, arith, length-drop, length-take, append_assoc, length-append, take-append-drop}
 use borrow.Rule.Slice.PartMut.{put_mid}
 use Rattle.std.specs.Int.{w64, from_le_bytes}
-use Rattle.std.specs.List.{flat_map}
-use Rattle.std.proofs.lemmas.List.{places, drop-drop, length-take-le, nil_from_length, take_more, take_all, drop_all, append-nil, take_at, drop_at, flat_map_more}
+use Rattle.std.specs.List.{flat_map, slice_get}
+use Rattle.std.proofs.lemmas.List.{places, drop-drop, length-take-le, nil_from_length, set_split, take_more, take_all, drop_all, append-nil, take_at, drop_at, flat_map_more}
+use Rattle.std.proofs.lemmas.Option.{slice_get_within, slice_get-get_or, get_or_from_slice_get}
 use Rattle.std.proofs.lemmas.Nat.{le_bytes_8, from_le_bytes-to_le_bytes_8}
 use Rattle.std.proofs.lemmas.Grind.{common_steps, flat_map-append}
-use Rattle.wire.specs.Written.{Stands}
 use Rattle.wire.specs.Bytes.{Bytes, Fitting, eight, number_at, numbers, row}
 
 pub bytes_take : (n : ℕ) (bs : List ℕ) → Bytes bs → Bytes (take n bs)
@@ -66,13 +66,23 @@ pub ruleset steps = (numbers_more, numbers_none)
 flat_map-push : (ns : List ℕ) (n : ℕ) → flat_map eight (ns ++ n ∷ []) ≡ flat_map eight ns ++ eight n
 flat_map-push ns n = sym (flat_map_more eight [] ns n)
 
--- the i-th number is written behind those before it
-pub put_more : (i n : ℕ) (ns before out bytes : List ℕ) → i < length ns → n ≡ get_or ns i 0 → bytes ≡ eight n → out ≡ flat_map eight (take i ns) ++ drop (8 * i) before → put_mid (8 * i) (8 * i + 8 - 8 * i) out bytes ≡ flat_map eight (take (i + 1) ns) ++ drop (8 * (i + 1)) before
-put_more i n ns before out bytes lt here eights h =
-    let width : 8 * i + 8 - 8 * i ≡ 8 = omega arith in
-    let long : length (flat_map eight (take i ns)) ≡ 8 * i = omega (arith, length-flat_map, length-take {A = ℕ}) in
-    let far : drop 8 (drop (8 * i) before) ≡ drop (8 * (i + 1)) before = simp drop-drop (ap (λ (a : ℕ). drop a before) (omega arith)) in
-    rw (h, width, eights, here, take_more ns i 0 lt, flat_map-push) (simp (take_at, drop_at, append_assoc, far))
+-- numbers are written one behind the other, as long as there is one at i
+module _ (i : ℕ) (ns before out : List ℕ) (h : out ≡ flat_map eight (take i ns) ++ drop (8 * i) before) where
+  pub put_more : (n : ℕ) (bytes : List ℕ) → Some n ≡ slice_get ns i → bytes ≡ eight n → put_mid (8 * i) (8 * i + 8 - 8 * i) out bytes ≡ flat_map eight (take (i + 1) ns) ++ drop (8 * (i + 1)) before
+  put_more n bytes some eights =
+      let lt : i < length ns = slice_get_within ns i n (sym some) in
+      let number : get_or ns i 0 ≡ n = get_or_from_slice_get ns i n 0 (sym some) in
+      let width : 8 * i + 8 - 8 * i ≡ 8 = omega arith in
+      let long : length (flat_map eight (take i ns)) ≡ 8 * i = omega (arith, length-flat_map, length-take {A = ℕ}) in
+      let far : drop 8 (drop (8 * i) before) ≡ drop (8 * (i + 1)) before = simp drop-drop (ap (λ (a : ℕ). drop a before) (omega arith)) in
+      rw (h, width, eights, take_more ns i 0 lt, number, flat_map-push) (simp (take_at, drop_at, append_assoc, far))
+
+  pub put_all : None ≡ slice_get ns i → length before ≡ 8 * length ns → out ≡ flat_map eight ns
+  put_all none full =
+      let end : length ns ≤ i = grind (arith, none, slice_get-get_or ns i 0) in
+      rw (h, take_all i ns end, drop_all (8 * i) before (omega arith)) (append-nil (flat_map eight ns))
+
+pub ruleset put_steps = (put_more, put_all)
 
 pub length-row : (k : ℕ) (ns : List ℕ) → length (row k ns) ≡ 1 + 8 * length ns
 unfolding row
@@ -84,32 +94,34 @@ get_or-row k ns = refl
 
 pub ruleset rows = (length-flat_map, length-row, get_or-row)
 
-row-append : (k : ℕ) (hs ls : List ℕ) → row k (hs ++ ls) ≡ row k hs ++ flat_map eight ls
-unfolding row
-row-append k hs ls = ap (λ (l : List ℕ). k ∷ l) (flat_map-append eight hs ls)
-
 pub fitting_append : (hs ls : List ℕ) → Fitting hs → Fitting ls → Fitting (hs ++ ls)
 fitting_append hs ls h l i = grind (arith, places)
 
--- a row stands, and numbers are written behind it
-module _ (k n m : ℕ) (hs ls before out part : List ℕ) (h : Stands (row k hs) before out n) (long : m ≡ length ls) (room : 1 + 8 * (length hs + m) ≤ length before) where
-  pub room_behind : 8 * length ls ≤ length (take (length out - n) (drop n out))
-  room_behind = grind (arith, places, rows, h.long, h.holds)
+-- the head and the list of a row are written behind its kind
+module _ (k m : ℕ) (hs ls before : List ℕ) (long : m ≡ length ls) where
+  abbrev start : ℕ
+  start = 1 + 8 * length hs
 
-  pub row_longer : part ≡ flat_map eight ls ++ drop (8 * length ls) (take (length out - n) (drop n out)) → Stands (row k (hs ++ ls)) before (put_mid n (length out - n) out part) (1 + 8 * (length hs + m))
-  row_longer e =
-      let front : take n out ≡ row k hs = rw h.holds (take_at (row k hs) (drop n before) n (sym h.long)) in
-      let back : drop n out ≡ drop n before = rw h.holds (drop_at (row k hs) (drop n before) n (sym h.long)) in
-      let all : take (length out - n) (drop n out) ≡ drop n out = take_all (length out - n) (drop n out) (omega (arith, length-drop n out)) in
-      let none : drop (length out - n) (drop n out) ≡ [] = drop_all (length out - n) (drop n out) (omega (arith, length-drop n out)) in
-      let far : drop (8 * length ls) (drop n before) ≡ drop (1 + 8 * (length hs + m)) before = simp drop-drop (ap (λ (a : ℕ). drop a before) (omega (arith, length-row k hs, h.long))) in
-      record {
-        long = omega (arith, length-row, length-append {A = ℕ});
-        room = room;
-        holds = rw (none, e, all, front, back, row-append, far) (simp (append_assoc, append-nil));
-      }
+  abbrev end : ℕ
+  end = start + 8 * m
 
-pub ruleset behind = (room_behind, row_longer, fitting_append, length-row)
+  pub row_put : end ≤ length before → (a b : List ℕ) → a ≡ flat_map eight hs → b ≡ flat_map eight ls → put_mid start (end - start) (put_mid 1 (start - 1) (slice_set before 0 k) a) b ≡ row k (hs ++ ls) ++ drop end before
+  unfolding row
+  row_put room a b ha hb =
+      let rest : List ℕ = drop (start - 1) (drop 1 before) in
+      let kind : slice_set before 0 k ≡ k ∷ drop 1 before = set_split before 0 k (omega arith) in
+      let width : length (k ∷ a) ≡ start = omega (arith, ap length ha, length-flat_map hs) in
+      let front : take start (k ∷ (a ++ rest)) ≡ k ∷ a = take_at (k ∷ a) rest start width in
+      let back : drop start (k ∷ (a ++ rest)) ≡ rest = drop_at (k ∷ a) rest start width in
+      let far : drop (end - start) rest ≡ drop end before = simp drop-drop (ap (λ (i : ℕ). drop i before) (omega arith)) in
+      rw (kind, front, back, far, ha, hb, flat_map-append eight hs ls) (simp append_assoc refl)
+
+  pub row_long : length (row k (hs ++ ls)) ≡ end
+  row_long = omega (arith, length-row, length-append {A = ℕ})
+
+pub ruleset without_list = (append-nil)
+
+pub ruleset row_steps = (row_put, row_long, fitting_append)
 
 -- what the bytes of a row tell, and that bytes of whole numbers are the row that they tell
 module _ (k : ℕ) (ns : List ℕ) (b : ℕ) (bs : List ℕ) where

@@ -15,24 +15,10 @@ pub(crate) fn number_at(bytes: &[u8], at: usize) -> u64
     u64::from_le_bytes(*bytes[at..].first_chunk().unwrap())
 }
 
-// Writes a row at the start of lent bytes: the byte of its kind, and numbers. It takes the byte and not a kind, since calls
-// and answers have kinds of their own; `as u8` of a kind is its byte.
-#[tactic(auto, using(crate::proofs::Bytes::rows, std::proofs::lemmas::Grind::common_steps), unfolding(crate::specs::Bytes::row))]
-pub(crate) fn put(out: &mut [u8], kind: u8, numbers: &[u64]) -> Result<usize, Refusal>
-    ensures written { Written (row kind numbers.now) out.old out.new result }
-    ensures fit { Fitting numbers.now }
-{
-    let end = 1 + 8 * numbers.len();
-    if out.len() < end {
-        return Err(Refusal::NotLent);
-    }
-    out[0] = kind;
-    put_numbers(&mut out[1..], &numbers);
-    Ok(end)
-}
-
-// The same with the numbers of a list behind them. The list is handed the part of the bytes where its numbers go.
-#[tactic(auto, using(crate::proofs::Bytes::behind, std::proofs::lemmas::Grind::common_steps))]
+// Writes a row at the start of lent bytes: the byte of its kind, the numbers of its head and, in the part behind them, those
+// of its list. It takes the byte and not a kind, since calls and answers have kinds of their own; `as u8` of a kind is its
+// byte.
+#[tactic(auto, using(crate::proofs::Bytes::row_steps))]
 pub(crate) fn put_list<L: Numbers>(
     out: &mut [u8],
     kind: u8,
@@ -42,13 +28,25 @@ pub(crate) fn put_list<L: Numbers>(
     ensures written { Written (row kind (head.now ++ L.items list.now)) out.old out.new result }
     ensures fit { Fitting (head.now ++ L.items list.now) }
 {
-    let end = 1 + 8 * (head.len() + list.count());
+    let start = 1 + 8 * head.len();
+    let end = start + 8 * list.count();
     if out.len() < end {
         return Err(Refusal::NotLent);
     }
-    let start = put(out, kind, head)?;
-    put_numbers(&mut out[start..], list);
+    out[0] = kind;
+    put_numbers(&mut out[1..start], &head);
+    put_numbers(&mut out[start..end], list);
     Ok(end)
+}
+
+// The same without a list.
+#[tactic(auto, using(crate::proofs::Bytes::without_list))]
+pub(crate) fn put(out: &mut [u8], kind: u8, numbers: &[u64]) -> Result<usize, Refusal>
+    ensures written { Written (row kind numbers.now) out.old out.new result }
+    ensures fit { Fitting numbers.now }
+{
+    let none: &[u64] = &[];
+    put_list(out, kind, numbers, &none)
 }
 
 // All the whole numbers in a row of bytes.
