@@ -39,6 +39,7 @@ InParts d cs xs = (length xs ≡ length cs) × (0 < d)
 abbrev pub AloneAbove : ℕ → List ℕ → List ℕ → Type 0
 AloneAbove d cs xs = (length cs ≡ 1) × (d * slice_index cs 0 < slice_index xs 0)
 
+-- nothing, or the fault that was found
 abbrev pub Answered : Type 0
 Answered = Result (Unit {0}) Fault
 
