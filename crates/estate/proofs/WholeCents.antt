@@ -9,22 +9,53 @@ use Rattle.estate.proofs.Facts.{facts}
 use Rattle.estate.proofs.Rows.{get_or-map_zero, inside, sum-cons, sum_apart}
 
 module _ (d : ℕ) where
-  -- What looking further comes to: nobody lacks more than `most`, and it is still the place `was`; or the one at some j lacks
-  -- more, and it is that place.
-  abbrev Found : List ℕ → List ℕ → ℕ → ℕ → ℕ → ℕ → Type 0
-  Found xs ys i most was r =
-      ((r ≡ was) × ((j : ℕ) → get_or xs j 0 - d * get_or ys j 0 ≤ most)) ⊎ ((j : ℕ) × (r ≡ suc (i + j)) × (most < get_or xs j 0 - d * get_or ys j 0))
+  module _ (xs ys : List ℕ) where
+    abbrev lacked : ℕ → ℕ
+    lacked j = get_or xs j 0 - d * get_or ys j 0
+
+    -- the one at j is the first of those who lack most, and lacks more than `most`
+    pub record LacksMost (most j : ℕ) : Type 0 where
+      pub more : most < lacked j
+      pub all : (k : ℕ) → lacked k ≤ lacked j
+      pub before : (k : ℕ) → k < j → lacked k < lacked j
+
+    -- what looking further comes to: nobody lacks more than `most`, and it is still the place `was`; or it is the place of
+    -- who lacks most
+    abbrev Found : ℕ → ℕ → ℕ → ℕ → Type 0
+    Found i most was r =
+        ((r ≡ was) × ((j : ℕ) → lacked j ≤ most)) ⊎ ((j : ℕ) × (r ≡ suc (i + j)) × LacksMost most j)
 
   module _ (x y i most was r : ℕ) (xs ys : List ℕ) where
+    -- the first of them, or one behind it
+    first_lacks : most < x - d * y → ((j : ℕ) → lacked xs ys j ≤ x - d * y) → LacksMost (x ∷ xs) (y ∷ ys) most 0
+    first_lacks h less = record { more = h; all = all; before = λ k l. absurd (omega (arith, l)) }
+      where
+        all : (k : ℕ) → lacked (x ∷ xs) (y ∷ ys) k ≤ x - d * y
+        all zero = omega arith
+        all (suc k) = less k
+
+    later_lacks : (n j : ℕ) → most ≤ n → x - d * y ≤ n → LacksMost xs ys n j → LacksMost (x ∷ xs) (y ∷ ys) most (suc j)
+    later_lacks n j h l p = record { more = omega (arith, p.more); all = all; before = before }
+      where
+        all : (k : ℕ) → lacked (x ∷ xs) (y ∷ ys) k ≤ lacked xs ys j
+        all zero = omega (arith, p.more, l)
+        all (suc k) = p.all k
+
+        before : (k : ℕ) → k < suc j → lacked (x ∷ xs) (y ∷ ys) k < lacked xs ys j
+        before zero b = omega (arith, p.more, l)
+        before (suc k) b = p.before k (omega (arith, b))
+
     found_more : (b : Bool) → ltb most (x - d * y) ≡ b → Found xs ys (suc i) (cond b (x - d * y) most) (cond b (suc i) was) r → Found (x ∷ xs) (y ∷ ys) i most was r
-    found_more true t (inl p) = inr (0, omega (arith, p.0), ltb-true _ _ t)
-    found_more true t (inr p) = inr (suc p.0, omega (arith, p.1), omega (arith, p.2, ltb-true _ _ t))
+    found_more true t (inl p) = inr (0, omega (arith, p.0), first_lacks (ltb-true _ _ t) p.1)
+    found_more true t (inr p) =
+        inr (suc p.0, omega (arith, p.1), later_lacks (x - d * y) p.0 (omega (arith, ltb-true _ _ t)) (omega arith) p.2)
     found_more false t (inl p) = inl (p.0, none)
       where
-        none : (j : ℕ) → get_or (x ∷ xs) j 0 - d * get_or (y ∷ ys) j 0 ≤ most
+        none : (j : ℕ) → lacked (x ∷ xs) (y ∷ ys) j ≤ most
         none zero = ltb-false _ _ t
         none (suc j) = p.1 j
-    found_more false t (inr p) = inr (suc p.0, omega (arith, p.1), p.2)
+    found_more false t (inr p) =
+        inr (suc p.0, omega (arith, p.1), later_lacks most p.0 (omega arith) (ltb-false _ _ t) p.2)
 
   found : (xs ys : List ℕ) → length xs ≡ length ys → (i most was : ℕ) → Found xs ys i most was (lacks_most d xs ys i most was)
   unfolding lacks_most
@@ -33,6 +64,23 @@ module _ (d : ℕ) where
   found (x ∷ xs) (y ∷ ys) l i most was =
       let b : Bool = ltb most (x - d * y) in
       found_more x y i most was _ xs ys b refl (found xs ys (omega arith) (suc i) (cond b (x - d * y) most) (cond b (suc i) was))
+
+  -- who lacks most is the one that is found, and nobody where nobody lacks anything
+  module _ (xs ys : List ℕ) (paired : length xs ≡ length ys) where
+    one_most : (j r : ℕ) → LacksMost xs ys 0 j → Found xs ys 0 0 0 r → r ≡ suc j
+    one_most j r m (inl p) = absurd (omega (arith, m.more, p.1 j))
+    one_most j r m (inr p) =
+        grind (arith, p.1, m.all p.0, p.2.all j, m.before p.0, p.2.before j)
+
+    pub most_found : (j : ℕ) → LacksMost xs ys 0 j → lacks_most d xs ys 0 0 0 ≡ suc j
+    most_found j m = one_most j _ m (found xs ys paired 0 0 0)
+
+    nobody : (r : ℕ) → ((j : ℕ) → lacked xs ys j ≤ 0) → Found xs ys 0 0 0 r → r ≡ 0
+    nobody r h (inl p) = p.0
+    nobody r h (inr p) = absurd (omega (arith, h p.0, p.2.more))
+
+    pub nobody_found : ((j : ℕ) → lacked xs ys j ≤ 0) → lacks_most d xs ys 0 0 0 ≡ 0
+    nobody_found h = nobody _ h (found xs ys paired 0 0 0)
 
 -- what is true of each at its place stays so, if it is true of the one who has one more
 one_more_each : (P : ℕ → ℕ → Type 0) (ys : List ℕ) (j : ℕ) → ((i : ℕ) → P i (get_or ys i 0)) → P j (suc (get_or ys j 0)) → (i : ℕ) → P i (get_or (one_more ys (suc j)) i 0)
@@ -86,8 +134,8 @@ module _ (d e : ℕ) (xs : List ℕ) (parted : 0 < d) (whole : sum xs ≡ d * e)
       let is : place ≡ suc j = omega (arith, p.1) in
       rw is (record {
         paired = r.paired ∙ sym (length-one_more ys j);
-        given = omega (arith, r.given, sum-one_more ys j (omega (arith, r.paired, inside xs j (omega (arith, p.2)))));
-        near = one_more_each (λ i y. Near d (get_or xs i 0) y) ys j r.near (omega (arith, p.2), omega (arith, r.near j));
+        given = omega (arith, r.given, sum-one_more ys j (omega (arith, r.paired, inside xs j (omega (arith, p.2.more)))));
+        near = one_more_each (λ i y. Near d (get_or xs i 0) y) ys j r.near (omega (arith, p.2.more), omega (arith, r.near j));
       })
 
   rounded_all : (n : ℕ) (ys : List ℕ) → Rounded d n e xs ys → Rounded d 0 e xs (give_left n d xs ys)

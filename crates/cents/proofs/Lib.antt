@@ -1,0 +1,5 @@
+pub mod Marking
+pub mod Amounts
+pub mod Left
+pub mod Giving
+pub mod Serving

@@ -1,0 +1,40 @@
+-- Shares in parts of a cent, and what is lacking when they are rounded. Assumes nothing.
+use Rattle.std.specs.Prelude.{ℕ, suc, ◌+◌, ◌/◌, ◌%◌, Bool, List, [], ◌∷◌, if◌then◌else◌, slice_index}
+use Rattle.std.specs.Int.{div_ceil}
+use Rattle.estate.specs.Cents.{give_left}
+use Rattle.cents.specs.declared.bits.Marks.{Marks}
+use Rattle.cents.specs.declared.rounding.Rounding.{Rounding}
+use Rattle.cents.specs.Marks.{is_marked}
+
+-- a share of d-ths of a cent, rounded up or down
+abbrev pub rounded : ℕ → Bool → ℕ → ℕ
+rounded d up x = if up then div_ceil x d else x / d
+
+-- the shares of all, rounded up for whom `up` says
+unfoldable pub amounts : ℕ → (ℕ → Bool) → List ℕ → List ℕ
+amounts d up [] = []
+amounts d up (x ∷ xs) = rounded d (up 0) x ∷ amounts d (λ i. up (suc i)) xs
+
+-- what one lacks of its share then
+unfoldable pub lack : ℕ → (ℕ → Bool) → List ℕ → ℕ → ℕ
+lack d up xs i = if up i then 0 else slice_index xs i % d
+
+-- what all together lack, when each share is rounded down
+unfoldable pub lacking : ℕ → List ℕ → ℕ
+lacking d [] = 0
+lacking d (x ∷ xs) = x % d + lacking d xs
+
+module _ {L : Type 0} (items : L → List ℕ) where
+  abbrev pub lacking_of : Rounding L → ℕ
+  lacking_of r = lacking r.parts (items r.shares)
+
+  -- the whole cents of all, and what one lacks, where those who are marked have one of the cents that were left
+  abbrev pub with : Rounding L → Marks → List ℕ
+  with r more = amounts r.parts (is_marked more) (items r.shares)
+
+  abbrev pub lack_of : Rounding L → Marks → ℕ → ℕ
+  lack_of r more i = lack r.parts (is_marked more) (items r.shares) i
+
+  -- and the whole cents when so many more are given
+  abbrev pub given : Rounding L → ℕ → Marks → List ℕ
+  given r n more = give_left n r.parts (items r.shares) (with r more)

@@ -1,0 +1,42 @@
+// A mark for each creditor, as the bits of numbers.
+ghost use Rattle.std.specs.Prelude.{◌≡◌, ◌≢◌, ℕ, ◌<◌, true, false};
+ghost use Rattle.estate.specs.Limits.{most_creditors};
+
+// How many words the marks take: one for each 64 creditors.
+const WORDS: usize = 16;
+
+// Who is marked, of as many creditors as there may be.
+#[derive(Clone, Copy, Debug)]
+pub(crate) struct Marks {
+    words: [u64; WORDS],
+}
+
+impl Marks {
+    ghost use Rattle.cents.specs.Marks.{is_marked};
+
+    #[tactic(auto, unfolding(crate::specs::Marks::is_marked))]
+    pub(crate) fn none() -> Self
+        ensures { (i : ℕ) → is_marked result i ≡ false }
+    {
+        Marks { words: [0; WORDS] }
+    }
+
+    #[tactic(auto, unfolding(crate::specs::Marks::is_marked))]
+    pub(crate) fn has(&self, i: usize) -> bool
+        ensures { result ≡ is_marked self.now i }
+    {
+        let Some(word) = self.words.get(i / 64) else {
+            return false;
+        };
+        *word >> (i % 64) & 1 == 1
+    }
+
+    #[tactic(auto, using(crate::proofs::Marking::this_marked, crate::proofs::Marking::other_marked), unfolding(crate::specs::Marks::is_marked))]
+    pub(crate) fn mark(&mut self, i: usize)
+        requires { i < most_creditors }
+        ensures this { is_marked self.new i ≡ true }
+        ensures others { (k : ℕ) → k ≢ i → is_marked self.new k ≡ is_marked self.old k }
+    {
+        self.words[i / 64] |= 1 << (i % 64);
+    }
+}
