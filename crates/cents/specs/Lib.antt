@@ -1,3 +1,4 @@
 pub mod Marks
 pub mod Rounding
 pub mod Whole
+pub mod Laws

@@ -1,12 +1,16 @@
 // Whole cents that come of shares.
-ghost use Rattle.std.specs.Prelude.{Some};
+ghost use Rattle.std.specs.Prelude.{◌≡◌, Some};
+ghost use Rattle.estate.specs.Answers.{amounts};
+ghost use Rattle.wire.specs.Meaning.{told};
+ghost use Rattle.wire.specs.Written.{Written};
 
 use crate::bits::Marks;
 use crate::rounding::Rounding;
 use estate::MOST_CREDITORS;
+use shares::Shares;
 use std::error::Error;
 use std::fmt;
-use wire::Numbers;
+use wire::{Answer, Numbers, Refusal};
 
 // Why no whole cents come of shares.
 #[derive(Clone, Copy, Debug, PartialEq, Eq)]
@@ -64,12 +68,14 @@ impl<L: Numbers> Numbers for Cents<L> {
 }
 
 impl<L: Numbers + Copy> Cents<L> {
-    ghost use Rattle.cents.specs.Whole.{Comes};
+    ghost use Rattle.cents.specs.Laws.{AllCome};
+    ghost use Rattle.cents.specs.Whole.{cents_of, Comes};
 
     // The whole cents that come of shares, in parts of a cent.
-    #[tactic(auto, using(crate::proofs::Left::new))]
+    #[tactic(auto, using(crate::proofs::Left::new, crate::proofs::Pay::all_come))]
     pub fn new(parts: u64, shares: L) -> Result<Self, CentsError>
-        ensures { Comes L.items parts (L.items shares) result }
+        ensures comes { Comes L.items parts (L.items shares) result }
+        ensures all_come { AllCome L.items }
     {
         if parts == 0 {
             return Err(CentsError::NoParts);
@@ -84,5 +90,45 @@ impl<L: Numbers + Copy> Cents<L> {
         }
         let more = of.give(lacking / u128::from(parts));
         Ok(Cents { of, more })
+    }
+
+    // The answer to the call for cents.
+    pub fn answer(self) -> Answer<Self>
+        ensures { told (cents_of L.items) result ≡ amounts (cents_of L.items self) }
+    {
+        Answer::Amounts(self)
+    }
+
+    // Writes the cents at the start of lent words, and says how many there are.
+    #[tactic(auto, using(crate::proofs::Written::write))]
+    pub fn write(&self, out: &mut [u64]) -> Result<usize, Refusal>
+        ensures { Written (cents_of L.items self.now) out.old out.new result }
+    {
+        let count = self.count();
+        if out.len() < count {
+            return Err(Refusal::NotLent);
+        }
+        for i in 0..count {
+            let Some(cents) = self.get(i) else {
+                break;
+            };
+            out[i] = cents;
+        }
+        Ok(count)
+    }
+}
+
+impl<'a> Cents<Shares<'a>> {
+    ghost use Rattle.cents.specs.Laws.{CentsPay};
+    ghost use Rattle.cents.specs.Whole.{Comes};
+    ghost use Rattle.shares.specs.Shares.{parts_word, shares_of};
+
+    // The whole cents of claims on the terms of a division.
+    #[tactic(auto, using(crate::proofs::Pay::cents_pay))]
+    pub fn of(shares: Shares<'a>) -> Result<Self, CentsError>
+        ensures comes { Comes shares_of (parts_word shares.entry.terms) (shares_of shares.entry) result }
+        ensures cents_pay { CentsPay }
+    {
+        Cents::new(shares.terms.parts(), shares)
     }
 }

@@ -13,7 +13,7 @@ fits t (c ∷ cs) zero = omega arith
 fits t (c ∷ cs) (suc i) = fits t cs i
 
 -- the i-th is written behind those before it
-put_more : (i n : ℕ) (ns before : List ℕ) → i < length ns → length ns ≤ length before → n ≡ get_or ns i 0 → slice_set (take i ns ++ drop i before) i n ≡ take (suc i) ns ++ drop (suc i) before
+pub put_more : (i n : ℕ) (ns before : List ℕ) → i < length ns → length ns ≤ length before → n ≡ get_or ns i 0 → slice_set (take i ns ++ drop i before) i n ≡ take (suc i) ns ++ drop (suc i) before
 put_more i n [] before lt room e = absurd (omega arith)
 put_more i n (m ∷ ms) [] lt room e = absurd (omega arith)
 put_more zero n (m ∷ ms) (b ∷ bs) lt room e = ap (λ x. x ∷ bs) e
