@@ -1,1 +1,2 @@
 pub mod Kept
+pub mod Said

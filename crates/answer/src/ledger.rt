@@ -1,5 +1,5 @@
 // What the program keeps between calls, until there is a desk: what is there, and the claims as they came.
-ghost use Rattle.std.specs.Prelude.{◌≡◌, ◌<◌, ◌≤◌, ◌⊎◌, ◌≢◌, IfSome, OnOk, OnErr, IfErr, MatchOption};
+ghost use Rattle.std.specs.Prelude.{◌≡◌, ℕ, List, ◌<◌, ◌≤◌, ◌⊎◌, ◌≢◌, IfSome, OnOk, OnErr, IfErr, MatchOption};
 ghost use Rattle.std.specs.List.Sorted.{IsPermutation, IsSorted};
 ghost use Rattle.std.specs.Ordering.{nat_cmp};
 ghost use Rattle.estate.specs.Estates.{Within};
@@ -7,6 +7,8 @@ ghost use Rattle.estate.specs.Limits.{most_cents};
 ghost use Rattle.wire.specs.declared.refusals.Refusal.TheVariants.{TooLarge};
 ghost use Rattle.answer.specs.Kept.{limits, estate_in};
 
+use crate::list::AnswerList;
+use cents::Cents;
 use estate::{MOST_THERE, cents_allowed};
 use level::{Terms, terms_of};
 use shares::Shares;
@@ -31,10 +33,10 @@ impl Ledger {
     ghost use Rattle.estate.specs.Changes.{after};
     ghost use Rattle.estate.specs.Estates.{new_estate, counted};
     ghost use Rattle.estate.specs.Right.{answered};
-    ghost use Rattle.shares.specs.Laws.{Divided};
-    ghost use Rattle.shares.specs.Shares.{shares_of};
+    ghost use Rattle.shares.specs.Laws.{TermsFor};
     ghost use Rattle.wire.specs.Meaning.{heard, told};
     ghost use Rattle.answer.specs.Ledger.{estate_of, outcome, Leaves};
+    ghost use Rattle.answer.specs.Lists.{list_of};
 
     pub(crate) fn new() -> Self
         ensures { estate_of result ≡ new_estate }
@@ -46,20 +48,18 @@ impl Ledger {
         }
     }
 
-    // Does what a call asks for, and answers it; none where it asks for cents, which come later.
-    pub(crate) fn answer(&mut self, call: Result<Call, Garbled>) -> Option<Answer<Shares<'_>>>
-        ensures said { MatchOption result (heard call ≡ cents) (λ a. told shares_of a
-            ≡ answered limits (estate_of self.old) (heard call)) }
-        ensures none { IfSome result (λ _. heard call ≢ cents) }
+    // Does what a call asks for, and answers it.
+    pub(crate) fn answer(&mut self, call: Result<Call, Garbled>) -> Answer<AnswerList<'_>>
+        ensures said { told list_of result ≡ answered limits (estate_of self.old) (heard call) }
         ensures* after { sem 𝓛 (Leaves self.entry (heard call)) }
     {
         let done = self.change(call);
-        Some(match (call, done) {
+        match (call, done) {
             (_, Some(Ok(n))) => Answer::Number(n),
             (_, Some(Err(turned_away))) => Answer::Refused(turned_away),
             (Ok(Call::Shares), None) => self.shares(),
-            (_, None) => return None,
-        })
+            (_, None) => self.cents(),
+        }
     }
 
     // Does what a call asks for, and gives the number that is answered; none for shares and cents, which change nothing.
@@ -124,17 +124,35 @@ impl Ledger {
         Ok(there)
     }
 
-    fn shares(&self) -> Answer<Shares<'_>>
-        ensures { told shares_of result ≡ answered limits (estate_of self.now) shares }
+    #[tactic(auto, using(crate::proofs::Said::shares_said))]
+    fn shares(&self) -> Answer<AnswerList<'_>>
+        ensures { told list_of result ≡ answered limits (estate_of self.now) shares }
     {
-        let terms = self.terms();
-        let claims = &self.words[..self.count];
-        Shares { terms, claims }.answer()
+        let shares = self.divided();
+        Answer::Parts(shares.terms.parts(), AnswerList::Shares(shares))
+    }
+
+    #[tactic(auto, using(crate::proofs::Said::cents_said))]
+    fn cents(&self) -> Answer<AnswerList<'_>>
+        ensures { told list_of result ≡ answered limits (estate_of self.now) cents }
+    {
+        Answer::Amounts(AnswerList::Cents(Cents::of(self.divided()).unwrap()))
+    }
+
+    // The claims, and the terms on which what is there is divided among them.
+    fn divided(&self) -> Shares<'_>
+        ensures terms { (ks : List ℕ) × TermsFor (estate_of self.now) ks result.terms }
+        ensures claims { result.claims.now ≡ counted (estate_of self.now) }
+    {
+        Shares {
+            terms: self.terms(),
+            claims: &self.words[..self.count],
+        }
     }
 
     // The terms on which what is there is divided.
     fn terms(&self) -> Terms
-        ensures { Divided (estate_of self.now) result }
+        ensures { (ks : List ℕ) × TermsFor (estate_of self.now) ks result }
     {
         let mut words = self.words;
         let in_order = &mut words[..self.count];
@@ -146,7 +164,7 @@ impl Ledger {
     fn terms_among(&self, in_order: &[u64]) -> Terms
         requires same { IsPermutation (counted (estate_of self.now)) in_order.now }
         requires rising { IsSorted nat_cmp in_order.now }
-        ensures { Divided (estate_of self.now) result }
+        ensures { TermsFor (estate_of self.now) in_order.now result }
     {
         terms_of(self.there, in_order).unwrap()
     }

@@ -1,14 +1,15 @@
-// Answers a file of calls, or standard input, a line for each call. Whole cents come later.
+// Answers a file of calls, or standard input, a line for each call.
 #![tactic(auto)]
 
 mod ledger;
+mod list;
 
 use crate::ledger::Ledger;
-use shares::{Shares, share};
+use crate::list::AnswerList;
 use std::io::Read;
 use std::rt::{Env, Files};
 use std::{env, fs, io};
-use wire::{Answer, Calls};
+use wire::{Answer, Calls, Numbers};
 
 // The bytes of the file that the first argument names, or of standard input.
 fn input(rt: &(impl Env + Files + Input + AllocGlobal)) -> io::Result<Vec<u8>> {
@@ -20,29 +21,37 @@ fn input(rt: &(impl Env + Files + Input + AllocGlobal)) -> io::Result<Vec<u8>> {
     Ok(bytes)
 }
 
-// Prints an answer as a line: `d 6: 200 200 200` where it is shares, else a number or a refusal.
-fn print(rt: &impl Print, answer: Option<Answer<Shares<'_>>>) -> io::Result<()> {
+// Prints an answer as a line: `d 6: 200 200 200`, `34 33 33`, a number or a refusal.
+fn print(rt: &impl Print, answer: &Answer<AnswerList<'_>>) -> io::Result<()> {
     match answer {
-        Some(Answer::Refused(turned_away)) => println!(rt; "{turned_away}"),
-        Some(Answer::Number(n)) => println!(rt; "{n}"),
-        Some(Answer::Parts(d, Shares { terms, claims })) => {
+        Answer::Refused(turned_away) => println!(rt; "{turned_away}"),
+        Answer::Number(n) => println!(rt; "{n}"),
+        Answer::Parts(d, shares) => {
             print!(rt; "d {d}:")?;
-            for claim in claims {
-                print!(rt; " {}", share(terms, *claim))?;
-            }
-            println!(rt; "")
+            print_list(rt, shares, " ")
         }
-        Some(Answer::Amounts(_)) | None => {
-            println!(rt; "not answered yet: a later version gives cents")
-        }
+        Answer::Amounts(cents) => print_list(rt, cents, ""),
     }
+}
+
+// Prints numbers with a space between them and `before` the first, and ends the line.
+fn print_list(rt: &impl Print, list: &AnswerList<'_>, before: &str) -> io::Result<()> {
+    let mut gap = before;
+    for i in 0..list.count() {
+        let Some(n) = list.get(i) else {
+            break;
+        };
+        print!(rt; "{gap}{n}")?;
+        gap = " ";
+    }
+    println!(rt; "")
 }
 
 fn run(rt: &(impl Env + Files + Input + Print + AllocGlobal)) -> anyhow::Result<()> {
     let calls = input(rt)?;
     let mut ledger = Ledger::new();
     for call in Calls(&calls) {
-        print(rt, ledger.answer(call))?;
+        print(rt, &ledger.answer(call))?;
     }
     Ok(())
 }

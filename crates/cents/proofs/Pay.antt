@@ -1,6 +1,7 @@
 -- Whole cents come of all shares that add up, and they pay. Assumes nothing.
-use Rattle.std.proofs.Common.{◌≡◌, ℕ, ◌*◌, ◌/◌, ◌%◌, ◌<◌, ◌≤◌, List, length, Ok, Err, Result, MatchResult, sum, refl, sym, ◌∙◌, ap, arith}
+use Rattle.std.proofs.Common.{◌≡◌, ℕ, ◌*◌, ◌/◌, ◌%◌, ◌<◌, ◌≤◌, List, length, Ok, Err, Result, sum, refl, sym, ◌∙◌, ap, arith}
 use Rattle.std.proofs.Math.Nat.{mul-mod_right, mul-div_cancel_left}
+use Rattle.std.specs.Result.{IsOkAnd}
 use Rattle.estate.specs.Limits.{most_creditors}
 use Rattle.estate.specs.Cents.{in_cents}
 use Rattle.estate.specs.Estates.{Estate, divided, counted}
@@ -36,7 +37,7 @@ cents_pay e ks t r f c =
     let q = facts _ _ _ _ p.divides in
     paid r (all_come shares_of _ (divided e) (shares_on t (counted e)) r q.parted (omega (arith, q.paired, f.within.few)) q.whole c)
   where
-    paid : (r : Result (Cents Shares) CentsError) → MatchResult r (λ c. Whole (parts_word t) (divided e) (shares_on t (counted e)) (cents_of shares_of c)) (λ _. ⊥) → MatchResult r (λ c. Paid e t (cents_of shares_of c)) (λ _. ⊥)
+    paid : (r : Result (Cents Shares) CentsError) → IsOkAnd r (λ c. Whole (parts_word t) (divided e) (shares_on t (counted e)) (cents_of shares_of c)) → IsOkAnd r (λ c. Paid e t (cents_of shares_of c))
     paid (Err why) w = w
     paid (Ok k) w =
         let p = shares_divide e ks t f in

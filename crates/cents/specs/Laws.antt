@@ -1,5 +1,5 @@
 -- What is true of whole cents. The contracts of `Cents::new` and `Cents::of` name each. Assumes nothing.
-use Rattle.std.specs.Prelude.{◌≡◌, ℕ, ◌*◌, ◌<◌, ◌≤◌, List, length, MatchResult, slice_index, sum}
+use Rattle.std.specs.Prelude.{◌≡◌, ℕ, ◌*◌, ◌<◌, ◌≤◌, List, length, IsOkAnd, slice_index, sum}
 use Rattle.estate.specs.Limits.{most_creditors}
 use Rattle.estate.specs.Calls.{cents}
 use Rattle.estate.specs.Answers.{amounts}
@@ -22,7 +22,7 @@ pub record Whole (d e : ℕ) (xs ys : List ℕ) : Type 0 where
 -- They come of all shares that add up to whole cents, up to as many as there may be creditors.
 abbrev pub AllCome : {L : Type 0} → (L → List ℕ) → Type 0
 AllCome items =
-    (d e : ℕ) (xs : List ℕ) (r : _) → 0 < d → length xs ≤ most_creditors → sum xs ≡ d * e → Comes items d xs r → MatchResult r (λ c. Whole d e xs (cents_of items c)) (λ _. ⊥)
+    (d e : ℕ) (xs : List ℕ) (r : _) → 0 < d → length xs ≤ most_creditors → sum xs ≡ d * e → Comes items d xs r → IsOkAnd r (λ c. Whole d e xs (cents_of items c))
 
 -- The cents ys are paid to an estate on these terms: its shares divide it, the cents come of these shares, there is an
 -- amount for each claim, together what is divided, each less than a cent away from the share, and none above the claim. It is
@@ -36,4 +36,4 @@ pub record Paid (e : Estate) (t : Terms) (ys : List ℕ) : Type 0 where
 -- So it is with every estate within the limits, on the terms that are found for it.
 abbrev pub CentsPay : Type 0
 CentsPay =
-    (e : Estate) (ks : List ℕ) (t : Terms) (r : _) → TermsFor e ks t → Comes shares_of (parts_word t) (shares_on t (counted e)) r → MatchResult r (λ c. Paid e t (cents_of shares_of c)) (λ _. ⊥)
+    (e : Estate) (ks : List ℕ) (t : Terms) (r : _) → TermsFor e ks t → Comes shares_of (parts_word t) (shares_on t (counted e)) r → IsOkAnd r (λ c. Paid e t (cents_of shares_of c))
