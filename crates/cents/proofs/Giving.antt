@@ -1,10 +1,10 @@
 -- A cent for who lacks most. Assumes nothing.
-use Rattle.std.proofs.Common.{◌≡◌, ◌≢◌, ℕ, zero, suc, ◌+◌, ◌-◌, ◌*◌, ◌%◌, ◌<◌, ◌≤◌, Bool, true, false, cond, List, [], ◌∷◌, length, get_or, nat_eq, nat_lt, refl, ap, sym, ◌∙◌, arith}
-use Rattle.std.proofs.lemmas.Bool.{eqb-true, eqb-false, ltb-true, ltb-false}
+use Rattle.std.proofs.Common.{◌≡◌, ◌≢◌, ℕ, zero, suc, ◌+◌, ◌-◌, ◌*◌, ◌%◌, ◌<◌, ◌≤◌, Bool, true, false, cond, List, [], ◌∷◌, length, get_or, nat_lt, refl, ap, sym, arith}
+use Rattle.std.proofs.lemmas.Bool.{ltb-true, ltb-false}
 use Rattle.std.proofs.lemmas.List.{get_or_past}
 use Rattle.std.proofs.Math.Nat.{zero-mod}
 use Rattle.estate.specs.Cents.{downs, lacks_most, one_more, give_left}
-use Rattle.estate.proofs.WholeCents.{LacksMost, most_found, nobody_found}
+use Rattle.estate.proofs.WholeCents.{most_found, nobody_found}
 use Rattle.cents.specs.Rounding.{rounded, amounts, lack}
 use Rattle.cents.proofs.Amounts.{length-amounts, amounts-one_more, lacked-amounts}
 

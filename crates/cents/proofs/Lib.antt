@@ -5,3 +5,4 @@ pub mod Giving
 pub mod Serving
 pub mod Written
 pub mod Pay
+pub mod Remainders

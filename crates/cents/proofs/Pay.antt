@@ -1,23 +1,20 @@
 -- Whole cents come of all shares that add up, and they pay. Assumes nothing.
-use Rattle.std.proofs.Common.{◌≡◌, ℕ, ◌*◌, ◌/◌, ◌%◌, ◌<◌, ◌≤◌, List, length, Ok, Err, Result, sum, refl, sym, ◌∙◌, ap, arith}
+use Rattle.std.proofs.Common.{ℕ, ◌/◌, ◌%◌, List, Ok, Err, Result, refl, sym, ◌∙◌, ap, arith}
 use Rattle.std.proofs.Math.Nat.{mul-mod_right, mul-div_cancel_left}
 use Rattle.std.specs.Result.{IsOkAnd}
-use Rattle.estate.specs.Limits.{most_creditors}
 use Rattle.estate.specs.Cents.{in_cents}
-use Rattle.estate.specs.Estates.{Estate, divided, counted}
-use Rattle.estate.specs.Right.{says, may_say}
+use Rattle.estate.specs.Estates.{divided, counted}
+use Rattle.estate.specs.Right.{may_say}
 use Rattle.estate.proofs.Facts.{facts}
 use Rattle.estate.proofs.WholeCents.{rounded, cents_add_up}
-use Rattle.level.specs.declared.closed.Terms.{Terms}
 use Rattle.estate.proofs.RightAnswers.{cents_one_answer}
 use Rattle.shares.specs.declared.written.Shares.{Shares}
 use Rattle.shares.specs.Shares.{parts_word, shares_on, shares_of}
-use Rattle.shares.specs.Laws.{TermsFor, Divided}
 use Rattle.shares.proofs.Divided.{shares_divide}
 use Rattle.cents.specs.declared.whole.Cents.{Cents}
 use Rattle.cents.specs.declared.whole.CentsError.{CentsError}
 use Rattle.cents.specs.declared.whole.CentsError.TheVariants.{NoParts, TooMany, NotWhole}
-use Rattle.cents.specs.Whole.{cents_of, Comes}
+use Rattle.cents.specs.Whole.{cents_of}
 use Rattle.cents.specs.Laws.{Whole, AllCome, Paid, CentsPay}
 
 module _ {L : Type 0} (items : L → List ℕ) where

@@ -1,5 +1,5 @@
 -- The loops that give cents. Assumes nothing.
-use Rattle.std.proofs.Common.{◌≡◌, ◌≢◌, ℕ, ◌+◌, ◌-◌, ◌<◌, ◌≤◌, List, length, true, refl, sym, ◌∙◌, arith}
+use Rattle.std.proofs.Common.{◌≡◌, ◌≢◌, ℕ, ◌+◌, ◌-◌, ◌<◌, ◌≤◌, List, length, true, refl, arith}
 use Rattle.estate.specs.Cents.{give_left}
 use Rattle.cents.specs.declared.bits.Marks.{Marks}
 use Rattle.cents.specs.Marks.{is_marked}
@@ -28,13 +28,13 @@ module _ (d : ℕ) (xs : List ℕ) where
 
     pub serving_more : (k i : ℕ) (now then : Marks) → Serving most n was k i now → 0 < d → 0 < most → 0 < k → lack d (is_marked now) xs i ≡ most → is_marked then i ≡ true → ((j : ℕ) → j ≢ i → is_marked then j ≡ is_marked now j) → Serving most n was (k - 1) (i + 1) then
     unfolding Serving
-    serving_more k i now then s parted some left it this others =
-        ( given_more d xs parted (is_marked now) (is_marked then) i most this others s.2 some it s.3 k _ left s.0
-        , omega (arith, s.1)
-        , most_still d xs parted (is_marked now) (is_marked then) i most this others s.2 some
-        , less_before d xs parted (is_marked now) (is_marked then) i most this others s.2 some s.3
-        , λ e. absurd (omega (arith, e, s.1, left))
-        )
+    serving_more k i now then s parted some left it this others = (
+      given_more d xs parted (is_marked now) (is_marked then) i most this others s.2 some it s.3 k _ left s.0,
+      omega (arith, s.1),
+      most_still d xs parted (is_marked now) (is_marked then) i most this others s.2 some,
+      less_before d xs parted (is_marked now) (is_marked then) i most this others s.2 some s.3,
+      λ e. absurd (omega (arith, e, s.1, left)),
+    )
 
     module _ (k i : ℕ) (now : Marks) (s : Serving most n was k i now) where
       pub served_given : given k now ≡ given n was

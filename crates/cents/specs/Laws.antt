@@ -1,5 +1,5 @@
 -- What is true of whole cents. The contracts of `Cents::new` and `Cents::of` name each. Assumes nothing.
-use Rattle.std.specs.Prelude.{◌≡◌, ℕ, ◌*◌, ◌<◌, ◌≤◌, List, length, IsOkAnd, slice_index, sum}
+use Rattle.std.specs.Prelude.{◌≡◌, ℕ, ◌*◌, ◌%◌, ◌<◌, ◌≤◌, ◌⊎◌, List, length, IsOkAnd, slice_index, sum}
 use Rattle.estate.specs.Limits.{most_creditors}
 use Rattle.estate.specs.Calls.{cents}
 use Rattle.estate.specs.Answers.{amounts}
@@ -37,3 +37,10 @@ pub record Paid (e : Estate) (t : Terms) (ys : List ℕ) : Type 0 where
 abbrev pub CentsPay : Type 0
 CentsPay =
     (e : Estate) (ks : List ℕ) (t : Terms) (r : _) → TermsFor e ks t → Comes shares_of (parts_word t) (shares_on t (counted e)) r → IsOkAnd r (λ c. Paid e t (cents_of shares_of c))
+
+-- Of the shares of such an estate few numbers are what is lacking of a cent when they are rounded down: nothing, half a cent,
+-- or one number that is the same for all.
+abbrev pub FewRemainders : Type 0
+FewRemainders =
+    (e : Estate) (ks : List ℕ) (t : Terms) → TermsFor e ks t → (r : ℕ)
+    × ((i : ℕ) → let x : ℕ = slice_index (shares_on t (counted e)) i % parts_word t in (x ≡ 0) ⊎ (2 * x ≡ parts_word t) ⊎ (x ≡ r))

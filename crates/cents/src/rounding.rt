@@ -64,7 +64,7 @@ impl<L: Numbers> Rounding<L> {
         requires { length (L.items self.now.shares) ≤ most_creditors }
         ensures { with L.items self.now result
             ≡ give_left cents self.now.parts (L.items self.now.shares)
-                (downs self.now.parts (L.items self.now.shares)) }
+            (downs self.now.parts (L.items self.now.shares)) }
     {
         let mut more = Marks::none();
         let mut left = cents;

@@ -119,15 +119,16 @@ impl<L: Numbers + Copy> Cents<L> {
 }
 
 impl<'a> Cents<Shares<'a>> {
-    ghost use Rattle.cents.specs.Laws.{CentsPay};
+    ghost use Rattle.cents.specs.Laws.{CentsPay, FewRemainders};
     ghost use Rattle.cents.specs.Whole.{Comes};
     ghost use Rattle.shares.specs.Shares.{parts_word, shares_of};
 
     // The whole cents of claims on the terms of a division.
-    #[tactic(auto, using(crate::proofs::Pay::cents_pay))]
+    #[tactic(auto, using(crate::proofs::Pay::cents_pay, crate::proofs::Remainders::few_remainders))]
     pub fn of(shares: Shares<'a>) -> Result<Self, CentsError>
         ensures comes { Comes shares_of (parts_word shares.entry.terms) (shares_of shares.entry) result }
         ensures cents_pay { CentsPay }
+        ensures few_remainders { FewRemainders }
     {
         Cents::new(shares.terms.parts(), shares)
     }

@@ -36,10 +36,10 @@ module _ (e : Estate) (ks : List ℕ) (t : Terms) (f : TermsFor e ks t) where
       let rest = no_word_short cs (All-tail (λ k. share_by t k ≤ 2 * most_claimed) c cs h) in
       cc
 
-  shares : shares_on t (counted e) ≡ map (share_by t) (counted e)
+  pub shares : shares_on t (counted e) ≡ map (share_by t) (counted e)
   shares = no_word_short (counted e) share_small
 
-  cent : parts_word t ≡ parts_of t
+  pub cent : parts_word t ≡ parts_of t
   cent = omega (arith, small.parts)
 
   divided_by : Divided e t
