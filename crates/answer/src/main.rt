@@ -38,10 +38,7 @@ fn print(rt: &impl Print, answer: &Answer<AnswerList<'_>>) -> io::Result<()> {
 fn print_list(rt: &impl Print, list: &AnswerList<'_>, before: &str) -> io::Result<()> {
     let mut gap = before;
     for i in 0..list.count() {
-        let Some(n) = list.get(i) else {
-            break;
-        };
-        print!(rt; "{gap}{n}")?;
+        print!(rt; "{gap}{}", list.get(i).unwrap())?;
         gap = " ";
     }
     println!(rt; "")

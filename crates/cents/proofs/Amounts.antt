@@ -1,7 +1,7 @@
 -- Shares rounded up or down, as lists. Assumes nothing.
 use Rattle.std.proofs.Common.{◌≡◌, ◌≢◌, ℕ, zero, suc, ◌-◌, ◌*◌, ◌/◌, ◌%◌, ◌<◌, ◌≤◌, Bool, true, false, List, [], ◌∷◌, length, get_or, slice_get, None, refl, ap, sym, arith, cond}
 use Rattle.std.proofs.Math.Nat.{le-mul_of_pos_right, zero-mod}
-use Rattle.std.proofs.lemmas.Option.{gets}
+use Rattle.std.proofs.lemmas.Option.{gets, slice_get_past}
 use Rattle.std.proofs.lemmas.List.{get_or_past}
 use Rattle.std.specs.Option.{option_map}
 use Rattle.std.proofs.lemmas.Grind.{div_ceil_times}
@@ -76,11 +76,7 @@ module _ (d : ℕ) where
 
   pub lack_past : (up : ℕ → Bool) (xs : List ℕ) (i : ℕ) → length xs ≤ i → lack d up xs i ≡ 0
   unfolding lack
-  lack_past up xs i past = nothing (up i)
-    where
-      nothing : (b : Bool) → cond b 0 (get_or xs i 0 % d) ≡ 0
-      nothing true = refl
-      nothing false = grind (arith, get_or_past, zero-mod d)
+  lack_past up xs i past = sym (lacks_nothing (up i) xs i (slice_get_past xs i past))
 
   -- so what is true of each is true at every place
   pub less_within : (up : ℕ → Bool) (xs : List ℕ) (n most : ℕ) → n ≡ length xs → 0 < most → ((k : ℕ) → k < n → lack d up xs k < most) → (k : ℕ) → lack d up xs k < most

@@ -1,6 +1,7 @@
 -- Shares in parts of a cent, and what is lacking when they are rounded. Assumes nothing.
-use Rattle.std.specs.Prelude.{ℕ, suc, ◌+◌, ◌/◌, ◌%◌, Bool, List, [], ◌∷◌, if◌then◌else◌, slice_index}
+use Rattle.std.specs.Prelude.{ℕ, suc, ◌/◌, ◌%◌, Bool, List, [], ◌∷◌, if◌then◌else◌, slice_index}
 use Rattle.std.specs.Int.{div_ceil}
+use Rattle.std.specs.List.{sum_by}
 use Rattle.estate.specs.Cents.{give_left}
 use Rattle.cents.specs.declared.bits.Marks.{Marks}
 use Rattle.cents.specs.declared.rounding.Rounding.{Rounding}
@@ -21,20 +22,19 @@ lack d up xs i = if up i then 0 else slice_index xs i % d
 
 -- what all together lack, when each share is rounded down
 unfoldable pub lacking : ℕ → List ℕ → ℕ
-lacking d [] = 0
-lacking d (x ∷ xs) = x % d + lacking d xs
+lacking d xs = sum_by (λ x. x % d) xs
 
 module _ {L : Type 0} (items : L → List ℕ) where
   abbrev pub lacking_of : Rounding L → ℕ
   lacking_of r = lacking r.parts (items r.shares)
 
   -- the whole cents of all, and what one lacks, where those who are marked have one of the cents that were left
-  abbrev pub with : Rounding L → Marks → List ℕ
-  with r more = amounts r.parts (is_marked more) (items r.shares)
+  abbrev pub cents_with : Rounding L → Marks → List ℕ
+  cents_with r more = amounts r.parts (is_marked more) (items r.shares)
 
   abbrev pub lack_of : Rounding L → Marks → ℕ → ℕ
   lack_of r more i = lack r.parts (is_marked more) (items r.shares) i
 
   -- and the whole cents when so many more are given
   abbrev pub given : Rounding L → ℕ → Marks → List ℕ
-  given r n more = give_left n r.parts (items r.shares) (with r more)
+  given r n more = give_left n r.parts (items r.shares) (cents_with r more)

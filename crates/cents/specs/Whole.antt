@@ -5,11 +5,11 @@ use Rattle.estate.specs.Limits.{most_creditors}
 use Rattle.cents.specs.declared.whole.Cents.{Cents}
 use Rattle.cents.specs.declared.whole.CentsError.{CentsError}
 use Rattle.cents.specs.declared.whole.CentsError.TheVariants.{NoParts, TooMany, NotWhole}
-use Rattle.cents.specs.Rounding.{with}
+use Rattle.cents.specs.Rounding.{cents_with}
 
 module _ {L : Type 0} (items : L → List ℕ) where
   abbrev pub cents_of : Cents L → List ℕ
-  cents_of c = with items c.of c.more
+  cents_of c = cents_with items c.rounding c.more
 
   -- What comes of shares xs in d-ths of a cent: whole cents by the definition, or why there are none. The first that
   -- applies is the answer.

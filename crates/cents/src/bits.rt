@@ -2,8 +2,10 @@
 ghost use Rattle.std.specs.Prelude.{◌≡◌, ◌≢◌, ℕ, ◌<◌, true, false};
 ghost use Rattle.estate.specs.Limits.{most_creditors};
 
+use estate::MOST_CREDITORS;
+
 // How many words the marks take: one for each 64 creditors.
-const WORDS: usize = 16;
+const WORDS: usize = MOST_CREDITORS / 64;
 
 // Who is marked, of as many creditors as there may be.
 #[derive(Clone, Copy, Debug)]

@@ -15,7 +15,7 @@ pub(crate) struct Rounding<L> {
 }
 
 impl<L: Numbers> Rounding<L> {
-    ghost use Rattle.cents.specs.Rounding.{given, lack_of, lacking_of, with};
+    ghost use Rattle.cents.specs.Rounding.{cents_with, given, lack_of, lacking_of};
 
     // What all together lack when each share is rounded down.
     #[tactic(auto, using(crate::proofs::Left::counted))]
@@ -24,9 +24,7 @@ impl<L: Numbers> Rounding<L> {
     {
         let mut lacking = 0;
         for i in 0..self.shares.count() {
-            let Some(share) = self.shares.get(i) else {
-                break;
-            };
+            let share = self.shares.get(i).unwrap();
             lacking += u128::from(share % self.parts);
         }
         lacking
@@ -62,7 +60,7 @@ impl<L: Numbers> Rounding<L> {
     #[tactic(auto, using(crate::proofs::Giving::none_given, crate::proofs::Giving::nobody_lacks, crate::proofs::Giving::all_given))]
     pub(crate) fn give(&self, cents: u128) -> Marks
         requires { length (L.items self.now.shares) ≤ most_creditors }
-        ensures { with L.items self.now result
+        ensures { cents_with L.items self.now result
             ≡ give_left cents self.now.parts (L.items self.now.shares)
             (downs self.now.parts (L.items self.now.shares)) }
     {

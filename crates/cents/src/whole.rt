@@ -42,7 +42,7 @@ impl Error for CentsError {}
 // What each creditor has in whole cents: its share rounded down, or up if it has one of the cents that were left.
 #[derive(Debug, Drop)]
 pub struct Cents<L> {
-    of: Rounding<L>,
+    rounding: Rounding<L>,
     more: Marks,
 }
 
@@ -53,16 +53,16 @@ impl<L: Numbers> Numbers for Cents<L> {
 
     #[tactic(auto, using(crate::proofs::Amounts::count))]
     fn count(&self) -> usize {
-        self.of.shares.count()
+        self.rounding.shares.count()
     }
 
     #[tactic(auto, using(crate::proofs::Amounts::get))]
     fn get(&self, i: usize) -> Option<u64> {
-        let share = self.of.shares.get(i)?;
+        let share = self.rounding.shares.get(i)?;
         Some(if self.more.has(i) {
-            share.div_ceil(self.of.parts)
+            share.div_ceil(self.rounding.parts)
         } else {
-            share / self.of.parts
+            share / self.rounding.parts
         })
     }
 }
@@ -83,13 +83,13 @@ impl<L: Numbers + Copy> Cents<L> {
         if shares.count() > MOST_CREDITORS {
             return Err(CentsError::TooMany);
         }
-        let of = Rounding { parts, shares };
-        let lacking = of.lacking();
+        let rounding = Rounding { parts, shares };
+        let lacking = rounding.lacking();
         if lacking % u128::from(parts) != 0 {
             return Err(CentsError::NotWhole);
         }
-        let more = of.give(lacking / u128::from(parts));
-        Ok(Cents { of, more })
+        let more = rounding.give(lacking / u128::from(parts));
+        Ok(Cents { rounding, more })
     }
 
     // The answer to the call for cents.
@@ -109,10 +109,7 @@ impl<L: Numbers + Copy> Cents<L> {
             return Err(Refusal::NotLent);
         }
         for i in 0..count {
-            let Some(cents) = self.get(i) else {
-                break;
-            };
-            out[i] = cents;
+            out[i] = self.get(i).unwrap();
         }
         Ok(count)
     }
