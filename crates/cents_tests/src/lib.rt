@@ -1,0 +1,9 @@
+// Whole cents worked out by hand.
+#![tactic(auto)]
+
+#[cfg(test)]
+mod cost;
+#[cfg(test)]
+mod given;
+#[cfg(test)]
+mod whole;
