@@ -47,7 +47,7 @@ impl<L: Numbers> Rounding<L> {
         ensures { (i : ℕ) → lack_of L.items self.now more.now i ≤ lack_of L.items self.now more.now result }
     {
         let mut most = 0;
-        for i in 0..self.shares.count() {
+        for i in 1..self.shares.count() {
             if self.lack(more, i) > self.lack(more, most) {
                 most = i;
             }
