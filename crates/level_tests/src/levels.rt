@@ -5,7 +5,7 @@ use std::test::Fail;
 const MOST: u64 = 18446744073709551615;
 
 // Claims, what is filled in, and the level: some of it, more than all of it, into none, nothing, and the largest numbers.
-const FILLED: [(&[u64], u64, u64, u64); 8] = [
+const FILLED: &[(&[u64], u64, u64, u64)] = &[
     (&[100, 200, 300], 200, 200, 3),
     (&[100, 200, 300], 400, 300, 2),
     (&[100, 200, 300], 600, 300, 1),
@@ -18,7 +18,7 @@ const FILLED: [(&[u64], u64, u64, u64); 8] = [
 
 #[test]
 fn levels_found(rt: HostRuntime) {
-    for (claims, target, numerator, denominator) in FILLED {
+    for &(claims, target, numerator, denominator) in FILLED {
         let level = Fraction {
             numerator,
             denominator,
@@ -28,7 +28,7 @@ fn levels_found(rt: HostRuntime) {
 }
 
 // Claims and what they come to: the last two are more than a word holds.
-const TOTALS: [(&[u64], u64); 5] = [
+const TOTALS: &[(&[u64], u64)] = &[
     (&[], 0),
     (&[100, 200, 300], 600),
     (&[0, MOST], MOST),
@@ -38,13 +38,13 @@ const TOTALS: [(&[u64], u64); 5] = [
 
 #[test]
 fn totals(rt: HostRuntime) {
-    for (claims, all) in TOTALS {
+    for &(claims, all) in TOTALS {
         assert_eq!(rt; total(claims), all);
     }
 }
 
 // What is there, what is claimed, and what is divided.
-const DIVIDED: [(u64, u64, u64); 4] = [
+const DIVIDED: &[(u64, u64, u64)] = &[
     (5, 6, 5),
     (6, 5, 5),
     (1_000_000_000_000, MOST, 1_000_000_000_000),
@@ -53,7 +53,7 @@ const DIVIDED: [(u64, u64, u64); 4] = [
 
 #[test]
 fn divided(rt: HostRuntime) -> Result<(), Fail> {
-    for (there, claimed, divided) in DIVIDED {
+    for &(there, claimed, divided) in DIVIDED {
         let estate = Estate::new(there, claimed).ok_or("none")?;
         assert_eq!(rt; estate.divided(), divided);
     }

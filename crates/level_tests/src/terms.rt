@@ -8,7 +8,7 @@ const MOST: u64 = 18446744073709551615;
 // and 300 with 100, 200 and 300 there, one cent below and above one half, and with 200 and 100 lost; equal claims below, at
 // and above one half; claims of zero; one creditor; all covered, exactly and with more; nothing there; no creditors; claims
 // that no word holds together.
-const TERMS: [(u64, &[u64], Side, u64, u64, u64); 22] = [
+const TERMS: &[(u64, &[u64], Side, u64, u64, u64)] = &[
     (100, &[100, 200, 300], Side::Gains, 200, 3, 6),
     (200, &[100, 200, 300], Side::Gains, 300, 2, 4),
     (300, &[100, 200, 300], Side::Gains, 300, 1, 2),
@@ -35,7 +35,7 @@ const TERMS: [(u64, &[u64], Side, u64, u64, u64); 22] = [
 
 #[test]
 fn terms_found(rt: HostRuntime) -> Result<(), Fail> {
-    for (there, claims, side, numerator, denominator, parts) in TERMS {
+    for &(there, claims, side, numerator, denominator, parts) in TERMS {
         let terms = terms_of(there, claims).ok_or("none")?;
         let level = Fraction {
             numerator,

@@ -8,7 +8,7 @@ const FOUR: [u64; 6] = [7, 10, 20, 30, 40, 9];
 
 // Words, how many claims are there, one more, its place, and the words after: where nothing is, first, within, last, among
 // equals, zero.
-const INSERTED: [([u64; 6], usize, u64, usize, [u64; 6]); 6] = [
+const INSERTED: &[([u64; 6], usize, u64, usize, [u64; 6])] = &[
     ([7, 1, 2, 3, 4, 9], 0, 5, 1, [7, 5, 2, 3, 4, 9]),
     ([7, 20, 40, 8, 8, 9], 2, 10, 1, [7, 10, 20, 40, 8, 9]),
     ([7, 20, 40, 8, 8, 9], 2, 30, 2, [7, 20, 30, 40, 8, 9]),
@@ -19,7 +19,7 @@ const INSERTED: [([u64; 6], usize, u64, usize, [u64; 6]); 6] = [
 
 #[test]
 fn claims_inserted(rt: HostRuntime) {
-    for (before, count, claim, at, after) in INSERTED {
+    for &(before, count, claim, at, after) in INSERTED {
         let mut words = before;
         let mut row = Row::new(&mut words, 1, count);
         assert_eq!(rt; row.insert(claim), Some(at));
@@ -30,7 +30,7 @@ fn claims_inserted(rt: HostRuntime) {
 
 // Words, how many claims are there, one of them, its place, and the words after: first, within, last, one of equals, the
 // only one, zero.
-const REMOVED: [([u64; 6], usize, u64, usize, [u64; 6]); 6] = [
+const REMOVED: &[([u64; 6], usize, u64, usize, [u64; 6])] = &[
     ([7, 10, 20, 30, 40, 9], 4, 10, 1, [7, 20, 30, 40, 0, 9]),
     ([7, 10, 20, 30, 40, 9], 4, 20, 2, [7, 10, 30, 40, 0, 9]),
     ([7, 10, 20, 30, 8, 9], 3, 30, 3, [7, 10, 20, 0, 8, 9]),
@@ -41,7 +41,7 @@ const REMOVED: [([u64; 6], usize, u64, usize, [u64; 6]); 6] = [
 
 #[test]
 fn claims_removed(rt: HostRuntime) {
-    for (before, count, claim, at, after) in REMOVED {
+    for &(before, count, claim, at, after) in REMOVED {
         let mut words = before;
         let mut row = Row::new(&mut words, 1, count);
         assert_eq!(rt; row.remove(claim), Some(at));
@@ -52,7 +52,7 @@ fn claims_removed(rt: HostRuntime) {
 
 // Of claims 10, 20, 30 and 40: one of them, another for it, the places, and the words after: up, down, to either end, where
 // it stands, and to the same.
-const REPLACED: [(u64, u64, Moved, [u64; 6]); 7] = [
+const REPLACED: &[(u64, u64, Moved, [u64; 6])] = &[
     (10, 35, Moved { from: 1, to: 3 }, [7, 20, 30, 35, 40, 9]),
     (40, 25, Moved { from: 4, to: 3 }, [7, 10, 20, 25, 30, 9]),
     (20, 99, Moved { from: 2, to: 4 }, [7, 10, 30, 40, 99, 9]),
@@ -64,7 +64,7 @@ const REPLACED: [(u64, u64, Moved, [u64; 6]); 7] = [
 
 #[test]
 fn claims_replaced(rt: HostRuntime) {
-    for (old, new, moved, after) in REPLACED {
+    for &(old, new, moved, after) in REPLACED {
         let mut words = FOUR;
         let mut row = Row::new(&mut words, 1, 4);
         assert_eq!(rt; row.replace(old, new), Some(moved));
@@ -75,11 +75,11 @@ fn claims_replaced(rt: HostRuntime) {
 
 // Starts and counts for which there is no room for one more: a part that ends with the last word, a start at the end and
 // past it, and two numbers whose sum no word holds.
-const NO_ROOM: [(usize, usize); 5] = [(1, 5), (6, 0), (7, 0), (1, MOST), (MOST, MOST)];
+const NO_ROOM: &[(usize, usize)] = &[(1, 5), (6, 0), (7, 0), (1, MOST), (MOST, MOST)];
 
 #[test]
 fn no_room(rt: HostRuntime) {
-    for (start, count) in NO_ROOM {
+    for &(start, count) in NO_ROOM {
         let mut words = FOUR;
         let mut row = Row::new(&mut words, start, count);
         assert_eq!(rt; row.insert(10), None);
@@ -91,11 +91,11 @@ fn no_room(rt: HostRuntime) {
 }
 
 // Below, between and above the claims, and what lies just outside.
-const NOT_THERE: [u64; 5] = [5, 15, 45, 7, 9];
+const NOT_THERE: &[u64] = &[5, 15, 45, 7, 9];
 
 #[test]
 fn not_there(rt: HostRuntime) {
-    for claim in NOT_THERE {
+    for &claim in NOT_THERE {
         let mut words = FOUR;
         let mut row = Row::new(&mut words, 1, 4);
         assert_eq!(rt; row.remove(claim), None);

@@ -3,7 +3,7 @@ use register::{Entry, Moved, Register, Unfit, enter_all};
 
 // Entries, how many claims there are then, and the words, each of which was 8: none, ascending, descending, equal and zero,
 // one too many, the first and the last changed and one that is not there, and a change to the same.
-const ENTERED: [(&[Entry], usize, [u64; 8]); 7] = [
+const ENTERED: &[(&[Entry], usize, [u64; 8])] = &[
     (&[], 0, [8, 8, 8, 8, 8, 8, 8, 8]),
     (
         &[Entry::Add(100), Entry::Add(200), Entry::Add(300)],
@@ -52,7 +52,7 @@ const ENTERED: [(&[Entry], usize, [u64; 8]); 7] = [
 
 #[test]
 fn claims_entered(rt: HostRuntime) {
-    for (entries, count, after) in ENTERED {
+    for &(entries, count, after) in ENTERED {
         let mut rows = [8; 8];
         assert_eq!(rt; enter_all(&mut rows, entries), count);
         assert!(rt; rows == after);
@@ -61,7 +61,7 @@ fn claims_entered(rt: HostRuntime) {
 
 // Of claims 10, 20 and 20: which is changed, to what, what is answered, and the words after: to the same, one of equals,
 // first to last, last to first; one that is not there.
-const CHANGED: [(usize, u64, Result<Moved, Unfit>, [u64; 8]); 5] = [
+const CHANGED: &[(usize, u64, Result<Moved, Unfit>, [u64; 8])] = &[
     (
         1,
         20,
@@ -91,7 +91,7 @@ const CHANGED: [(usize, u64, Result<Moved, Unfit>, [u64; 8]); 5] = [
 
 #[test]
 fn claims_changed(rt: HostRuntime) {
-    for (i, claim, answer, after) in CHANGED {
+    for &(i, claim, answer, after) in CHANGED {
         let mut rows = [10, 20, 20, 8, 10, 20, 20, 8];
         let mut register = Register::new(&mut rows, 3);
         assert_eq!(rt; register.change(i, claim), answer);

@@ -6,7 +6,7 @@ const MOST: u64 = 18446744073709551615;
 // The parts of a cent, the claims and the shares: of 100, 200 and 300 with 100, 200, 300, 400 and 500 there; equal claims;
 // a coat of which one claims all and the other half; claims of zero; one creditor with less than it claims, and with all;
 // all covered; nothing there; no creditors; the largest numbers.
-const RIGHT: [(u64, &[u64], &[u64]); 22] = [
+const RIGHT: &[(u64, &[u64], &[u64])] = &[
     (6, &[100, 200, 300], &[200, 200, 200]),
     (1, &[100, 200, 300], &[50, 75, 75]),
     (4, &[100, 200, 300], &[200, 300, 300]),
@@ -33,14 +33,14 @@ const RIGHT: [(u64, &[u64], &[u64]); 22] = [
 
 #[test]
 fn right_shares_pass(rt: HostRuntime) {
-    for (d, claims, shares) in RIGHT {
+    for &(d, claims, shares) in RIGHT {
         assert_eq!(rt; check(d, claims, shares), Ok(()));
     }
 }
 
 // Equal claims with different shares; the sum put right at the last creditor; more than both claim, divided as two do;
 // in proportion to what is claimed, and all alike; the later pairs only; a lone creditor above its claim; the largest numbers.
-const UNFAIR: [(u64, &[u64], &[u64], Fault); 16] = [
+const UNFAIR: &[(u64, &[u64], &[u64], Fault)] = &[
     (1, &[10, 10], &[2, 3], Fault::Pair(0, 1)),
     (1, &[10, 10, 10], &[1, 1, 3], Fault::Pair(0, 2)),
     (1, &[100, 200, 300], &[33, 33, 34], Fault::Pair(0, 2)),
@@ -66,13 +66,13 @@ const UNFAIR: [(u64, &[u64], &[u64], Fault); 16] = [
 
 #[test]
 fn wrong_shares_are_refused_where_they_are_wrong(rt: HostRuntime) {
-    for (d, claims, shares, fault) in UNFAIR {
+    for &(d, claims, shares, fault) in UNFAIR {
         assert_eq!(rt; check(d, claims, shares), Err(fault));
     }
 }
 
 // One share too few or too many, also where a cent has no parts; and no parts, also where two do not divide as two do.
-const SHAPELESS: [(u64, &[u64], &[u64], Fault); 8] = [
+const SHAPELESS: &[(u64, &[u64], &[u64], Fault)] = &[
     (1, &[1, 2], &[1], Fault::Unpaired),
     (1, &[1], &[1, 2], Fault::Unpaired),
     (1, &[], &[0], Fault::Unpaired),
@@ -85,7 +85,7 @@ const SHAPELESS: [(u64, &[u64], &[u64], Fault); 8] = [
 
 #[test]
 fn what_are_no_shares_is_refused_first(rt: HostRuntime) {
-    for (d, claims, shares, fault) in SHAPELESS {
+    for &(d, claims, shares, fault) in SHAPELESS {
         assert_eq!(rt; check(d, claims, shares), Err(fault));
     }
 }

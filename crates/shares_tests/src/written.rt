@@ -12,7 +12,7 @@ const MOST: u64 = 18446744073709551615;
 // creditor; nothing there; and claims of zero.
 type Estate = (u64, &'static [u64], &'static [u64], u64, &'static [u64]);
 
-const DIVIDED: [Estate; 12] = [
+const DIVIDED: &[Estate] = &[
     (100, &[100, 200, 300], &[100, 200, 300], 6, &[200, 200, 200]),
     (200, &[100, 200, 300], &[100, 200, 300], 4, &[200, 300, 300]),
     (300, &[100, 200, 300], &[100, 200, 300], 2, &[100, 200, 300]),
@@ -29,7 +29,7 @@ const DIVIDED: [Estate; 12] = [
 
 #[test]
 fn shares_as_words(rt: HostRuntime) -> Result<(), Fail> {
-    for (there, claims, in_order, d, shares) in DIVIDED {
+    for &(there, claims, in_order, d, shares) in DIVIDED {
         let terms = terms_of(there, in_order).ok_or("no terms")?;
         assert_eq!(rt; terms.parts(), d);
         let mut out = [170; 6];
@@ -44,7 +44,7 @@ fn shares_as_words(rt: HostRuntime) -> Result<(), Fail> {
 
 #[test]
 fn shares_as_bytes(rt: HostRuntime) -> Result<(), Fail> {
-    for (there, claims, in_order, d, shares) in DIVIDED {
+    for &(there, claims, in_order, d, shares) in DIVIDED {
         let terms = terms_of(there, in_order).ok_or("no terms")?;
         let mut out = [170u8; 56];
         let len = Shares { terms, claims }.answer().encode(&mut out)?;
@@ -100,7 +100,7 @@ fn too_few_words(rt: HostRuntime) -> Result<(), Fail> {
 
 // Sides, what is spread and among how many, a claim, and what it gets of terms that nobody found. The last of each side are
 // more than a word holds, or would be on the way.
-const MADE_UP: [(Side, u64, u64, u64, u64); 8] = [
+const MADE_UP: &[(Side, u64, u64, u64, u64)] = &[
     (Side::Gains, 7, 0, 5, 0),
     (Side::Gains, 7, 2, 3, 6),
     (Side::Gains, 7, 2, 4, 7),
@@ -113,7 +113,7 @@ const MADE_UP: [(Side, u64, u64, u64, u64); 8] = [
 
 #[test]
 fn shares_of_made_up_terms(rt: HostRuntime) {
-    for (side, numerator, denominator, claim, parts) in MADE_UP {
+    for &(side, numerator, denominator, claim, parts) in MADE_UP {
         let level = Fraction {
             numerator,
             denominator,

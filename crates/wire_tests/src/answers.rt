@@ -62,7 +62,7 @@ fn too_little_lent(rt: HostRuntime) {
 }
 
 // No byte, an unknown kind, a list longer or shorter than its count, half a number, an unknown refusal, a place of 2^32.
-const NONE: [&[u8]; 8] = [
+const NONE: &[&[u8]] = &[
     b"",
     b"\x04",
     b"\x03\x02\0\0\0\0\0\0\0\x22\0\0\0\0\0\0\0",
@@ -75,7 +75,7 @@ const NONE: [&[u8]; 8] = [
 
 #[test]
 fn rows_that_are_no_answers(rt: HostRuntime) {
-    for row in NONE {
+    for &row in NONE {
         assert_eq!(rt; Answer::decode(rt.alloc(), row), Err(DecodeError::NoAnswer));
     }
 }

@@ -2,7 +2,7 @@
 use wire::{Call, Calls, Garbled, Refusal};
 
 // Calls, and the bytes of each.
-const GOOD: [(Call, &[u8]); 7] = [
+const GOOD: &[(Call, &[u8])] = &[
     (
         Call::Claim(0x0102030405060708),
         b"\x00\x08\x07\x06\x05\x04\x03\x02\x01",
@@ -26,7 +26,7 @@ const GOOD: [(Call, &[u8]); 7] = [
 
 #[test]
 fn rows_that_are_calls(rt: HostRuntime) {
-    for (call, row) in GOOD {
+    for &(call, row) in GOOD {
         assert_eq!(rt; Call::decode(row), Ok(call));
     }
 }
@@ -34,7 +34,7 @@ fn rows_that_are_calls(rt: HostRuntime) {
 // A call is written at the start, and what lies behind stays; a byte less than it takes is too few.
 #[test]
 fn calls_that_are_rows(rt: HostRuntime) {
-    for (call, row) in GOOD {
+    for &(call, row) in GOOD {
         let len = row.len();
         assert!(rt; len >= 1 && len <= 20);
         let mut out = [170u8; 20];
@@ -48,7 +48,7 @@ fn calls_that_are_rows(rt: HostRuntime) {
 }
 
 // A kind, how many bytes there are, those behind it 0, and the place of the first that does not fit.
-const BAD: [(u8, usize, u32); 16] = [
+const BAD: &[(u8, usize, u32)] = &[
     (0, 0, 0),
     (5, 1, 0),
     (5, 9, 0),
@@ -69,7 +69,7 @@ const BAD: [(u8, usize, u32); 16] = [
 
 #[test]
 fn rows_that_are_none(rt: HostRuntime) {
-    for (kind, len, place) in BAD {
+    for &(kind, len, place) in BAD {
         let mut row = [0u8; 18];
         row[0] = kind;
         assert!(rt; len <= 18);
