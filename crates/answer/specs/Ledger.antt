@@ -20,6 +20,6 @@ abbrev pub outcome : Result ℕ TurnedAway → Answer
 outcome (Ok n) = number n
 outcome (Err t) = refused (refusal_number t.why) t.place
 
--- Shares are lent out of the ledger with an answer. When the answer is gone, the estate is the one after the call.
+-- Its list is lent out of the ledger with an answer. When the answer is gone, the estate is the one after the call.
 abbrev pub Leaves : MutBor Ledger → Call → Fml
 Leaves s c = Rests the_row s (λ l. estate_of l ≡ after limits (estate_of s.now) c)

@@ -15,14 +15,14 @@ use shares::Shares;
 use wire::{Answer, Call, Garbled, Place, Refusal, TurnedAway};
 
 // How many creditors are served.
-const MOST_CREDITORS: usize = 64;
+const MOST_SERVED: usize = 64;
 
 #[derive(Debug, Drop)]
 pub(crate) struct Ledger {
     there: u64,
     // how many of the words are claims
     count: usize,
-    words: [u64; MOST_CREDITORS],
+    words: [u64; MOST_SERVED],
     ghost few: { count ≤ limits.creditors },
     ghost within: { Within (estate_in there count words) },
 }
@@ -44,7 +44,7 @@ impl Ledger {
         Ledger {
             there: 0,
             count: 0,
-            words: [0; MOST_CREDITORS],
+            words: [0; MOST_SERVED],
         }
     }
 
@@ -87,7 +87,7 @@ impl Ledger {
     {
         few_enough(cents, 0)?;
         let place = self.count;
-        if place >= MOST_CREDITORS {
+        if place >= MOST_SERVED {
             return Err(refused(Refusal::NoRoom));
         }
         self.words[place] = cents;
@@ -128,7 +128,7 @@ impl Ledger {
     fn shares(&self) -> Answer<AnswerList<'_>>
         ensures { told list_of result ≡ answered limits (estate_of self.now) shares }
     {
-        let shares = self.divided();
+        let shares = self.division();
         Answer::Parts(shares.terms.parts(), AnswerList::Shares(shares))
     }
 
@@ -136,11 +136,11 @@ impl Ledger {
     fn cents(&self) -> Answer<AnswerList<'_>>
         ensures { told list_of result ≡ answered limits (estate_of self.now) cents }
     {
-        Answer::Amounts(AnswerList::Cents(Cents::of(self.divided()).unwrap()))
+        Answer::Amounts(AnswerList::Cents(Cents::of(self.division()).unwrap()))
     }
 
     // The claims, and the terms on which what is there is divided among them.
-    fn divided(&self) -> Shares<'_>
+    fn division(&self) -> Shares<'_>
         ensures terms { (ks : List ℕ) × TermsFor (estate_of self.now) ks result.terms }
         ensures claims { result.claims.now ≡ counted (estate_of self.now) }
     {

@@ -1,7 +1,6 @@
 -- How many cents are left. Assumes nothing.
-use Rattle.std.proofs.Common.{◌≡◌, ◌≢◌, ℕ, ◌+◌, ◌-◌, ◌*◌, ◌/◌, ◌%◌, ◌<◌, ◌≤◌, List, [], ◌∷◌, take, slice_get, sum, Some, refl, sym, ap, ◌∙◌, arith}
+use Rattle.std.proofs.Common.{◌≡◌, ◌≢◌, ℕ, ◌+◌, ◌-◌, ◌*◌, ◌/◌, ◌%◌, ◌<◌, List, [], ◌∷◌, take, slice_get, sum, Some, refl, sym, ap, ◌∙◌, arith}
 use Rattle.std.proofs.Math.Nat.{add-mul-mod_self_right, add-mul-div_right}
-use Rattle.std.proofs.Math.Seq.{take-length}
 use Rattle.std.proofs.lemmas.List.Sums.{sum_by-cons, sum_by_more}
 use Rattle.std.proofs.lemmas.Option.{slice_get_within, get_or_from_slice_get}
 use Rattle.estate.specs.Cents.{downs, give_left, in_cents}
@@ -31,11 +30,7 @@ module _ (d : ℕ) where
   lacking_more i x r s xs p h q =
       omega (arith, p, q, sum_by_more (λ y. y % d) xs i 0 (slice_get_within xs i x h), ap (λ y. y % d) (get_or_from_slice_get xs i x 0 h))
 
-  -- what each lacks is a word
-  pub lacking_room : (i x r s : ℕ) → 0 < d → d < 18446744073709551616 → r ≡ x % d → s ≤ i * 18446744073709551615 → s + r ≤ (i + 1) * 18446744073709551615
-  lacking_room i x r s h f p q = omega (arith, h, f, p, q)
-
-pub ruleset counted = (lacking_start, lacking_more, lacking_room, take-length)
+pub ruleset lacking_steps = (lacking_start, lacking_more)
 
 -- the shares add up to whole cents exactly if what is lacking does, and then so many cents are left
 module _ (d r n : ℕ) (xs : List ℕ) (h : r ≡ lacking d xs) (p : n ≡ d) where

@@ -1,8 +1,7 @@
 -- A bit that is set, and the others. Assumes nothing.
-use Rattle.std.proofs.Common.{◌≡◌, ◌≢◌, ℕ, ◌*◌, ◌/◌, ◌%◌, ◌^◌, ◌<◌, Bool, true, false, List, length, get_or, slice_set, bit_or, nat_eq, refl, ap, arith}
+use Rattle.std.proofs.Common.{◌≡◌, ◌≢◌, ℕ, ◌*◌, ◌/◌, ◌%◌, ◌^◌, ◌<◌, List, length, get_or, slice_set, bit_or, arith}
 use Rattle.std.specs.Int.{bit_at}
 use Rattle.std.proofs.Common.{w64}
-use Rattle.std.proofs.lemmas.Bool.{eqb-true, eqb-false}
 use Rattle.std.proofs.lemmas.List.{get_or-set_same, get_or-set_other}
 use Rattle.std.proofs.lemmas.Nat.Bits.{bit_at_set_same, bit_at_set_other}
 
@@ -22,11 +21,5 @@ module _ (ws : List ℕ) (i : ℕ) (there : i / 64 < length ws) where
 
   -- another bit, of the same word or of another
   pub other_marked : (k : ℕ) → k ≢ i → bit_at (get_or marked (k / 64) 0) (k % 64) ≡ bit_at (get_or ws (k / 64) 0) (k % 64)
-  other_marked k h = by_word (nat_eq (k / 64) (i / 64)) refl
-    where
-      by_word : (b : Bool) → nat_eq (k / 64) (i / 64) ≡ b → bit_at (get_or marked (k / 64) 0) (k % 64) ≡ bit_at (get_or ws (k / 64) 0) (k % 64)
-      by_word true e =
-          let same : k / 64 ≡ i / 64 = eqb-true _ _ e in
-          rw same (rw (get_or-set_same ws (i / 64) (with_bit word i) 0 there) (bit_at_set_other w64 word (i % 64) (omega arith) (k % 64) (omega (arith, same, h))))
-      by_word false e =
-          ap (λ n. bit_at n (k % 64)) (get_or-set_other ws (i / 64) (k / 64) (with_bit word i) 0 (eqb-false _ _ e))
+  other_marked k h =
+      grind (arith, there, get_or-set_same ws (i / 64) (with_bit word i) 0 there, get_or-set_other ws (i / 64) (k / 64) (with_bit word i) 0, bit_at_set_other w64 word (i % 64) (omega arith) (k % 64))

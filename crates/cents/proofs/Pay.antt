@@ -6,7 +6,7 @@ use Rattle.estate.specs.Cents.{in_cents}
 use Rattle.estate.specs.Estates.{divided, counted}
 use Rattle.estate.specs.Right.{may_say}
 use Rattle.estate.proofs.Facts.{facts}
-use Rattle.estate.proofs.WholeCents.{rounded, cents_add_up}
+use Rattle.estate.proofs.WholeCents.{cents_rounded, cents_add_up}
 use Rattle.estate.proofs.RightAnswers.{cents_one_answer}
 use Rattle.shares.specs.declared.written.Shares.{Shares}
 use Rattle.shares.specs.Shares.{parts_word, shares_on, shares_of}
@@ -24,7 +24,7 @@ module _ {L : Type 0} (items : L → List ℕ) where
   all_come d e xs (Err NotWhole) parted few sums c = c.2 (ap (λ n. n % d) sums ∙ mul-mod_right d e)
   all_come d e xs (Ok c) parted few sums k =
       let is = k.3 ∙ ap (λ n. in_cents d n xs) (ap (λ n. n / d) sums ∙ mul-div_cancel_left e parted) in
-      let r = rounded d e xs parted sums in
+      let r = cents_rounded d e xs parted sums in
       rw is (record { come = refl; paired = sym r.paired; sum_is = omega (arith, r.given); near = r.near })
 
 pub cents_pay : CentsPay

@@ -1,4 +1,4 @@
--- What the shares of a division lack of whole cents. Assumes nothing.
+-- What creditors lack of their shares of a division when these are rounded down. Assumes nothing.
 use Rattle.std.proofs.Common.{◌≡◌, ℕ, zero, suc, ◌*◌, ◌%◌, ◌≤◌, max, Bool, ◌⊎◌, arith}
 use Rattle.std.proofs.Math.Nat.{add-mod_right, add-mul-mod_self_left, le-mul_of_pos_right, mod-eq_of_lt}
 use Rattle.estate.specs.Closed.{share}
@@ -6,7 +6,7 @@ use Rattle.estate.specs.Estates.{counted}
 use Rattle.estate.proofs.Rows.{get_or-map_zero}
 use Rattle.level.specs.Sides.{gains}
 use Rattle.level.specs.Terms.{parts_of, share_by}
-use Rattle.shares.proofs.Divided.{cent, shares}
+use Rattle.shares.proofs.Divided.{parts_exact, shares_exact}
 use Rattle.cents.specs.Laws.{FewRemainders}
 
 module _ (m : ℕ) where
@@ -35,4 +35,4 @@ few_remainders e ks t f =
     let m : ℕ = t.level.denominator in
     let n : ℕ = t.level.numerator in
     let each = get_or-map_zero (share_by t) (grind arith) (counted e) in
-    (share_by t n % parts_of t, λ i. rw (cent e ks t f, shares e ks t f, each i) (grind (arith, none_or_half m, same_above m n (gains t.side))))
+    (share_by t n % parts_of t, λ i. rw (parts_exact e ks t f, shares_exact e ks t f, each i) (grind (arith, none_or_half m, same_above m n (gains t.side))))

@@ -1,20 +1,16 @@
 -- The loops that give cents. Assumes nothing.
 use Rattle.std.proofs.Common.{◌≡◌, ◌≢◌, ℕ, ◌+◌, ◌-◌, ◌<◌, ◌≤◌, List, length, true, refl, arith}
-use Rattle.estate.specs.Cents.{give_left}
 use Rattle.cents.specs.declared.bits.Marks.{Marks}
 use Rattle.cents.specs.Marks.{is_marked}
-use Rattle.cents.specs.Rounding.{amounts, lack}
+use Rattle.cents.specs.Rounding.{lack, given}
 use Rattle.cents.proofs.Giving.{given_more, most_still, less_before}
 use Rattle.cents.proofs.Amounts.{less_within}
 
 module _ (d : ℕ) (xs : List ℕ) where
-  abbrev given : ℕ → Marks → List ℕ
-  given n m = give_left n d xs (amounts d (is_marked m) xs)
-
   -- Of n cents k are left. Those before place i who lacked `most`, the most that anybody lacked, had one each.
   unfoldable pub Serving : (most n : ℕ) (was : Marks) (k i : ℕ) (now : Marks) → Type 0
   Serving most n was k i now =
-      (given k now ≡ given n was) × (k ≤ n) × ((j : ℕ) → lack d (is_marked now) xs j ≤ most) × ((j : ℕ) → j < i → lack d (is_marked now) xs j < most) × (k ≡ n → now ≡ was)
+      (given d xs k (is_marked now) ≡ given d xs n (is_marked was)) × (k ≤ n) × ((j : ℕ) → lack d (is_marked now) xs j ≤ most) × ((j : ℕ) → j < i → lack d (is_marked now) xs j < most) × (k ≡ n → now ≡ was)
 
   module _ (most n : ℕ) (was : Marks) where
     pub serving_none : ((j : ℕ) → lack d (is_marked was) xs j ≤ most) → Serving most n was n 0 was
@@ -31,26 +27,14 @@ module _ (d : ℕ) (xs : List ℕ) where
     serving_more k i now then s parted some left it this others = (
       given_more d xs parted (is_marked now) (is_marked then) i most this others s.2 some it s.3 k _ left s.0,
       omega (arith, s.1),
-      most_still d xs parted (is_marked now) (is_marked then) i most this others s.2 some,
-      less_before d xs parted (is_marked now) (is_marked then) i most this others s.2 some s.3,
+      most_still d xs parted (is_marked now) (is_marked then) i most this others s.2,
+      less_before d xs parted (is_marked now) (is_marked then) i most this others some s.3,
       λ e. absurd (omega (arith, e, s.1, left)),
     )
 
-    module _ (k i : ℕ) (now : Marks) (s : Serving most n was k i now) where
-      pub served_given : given k now ≡ given n was
-      unfolding Serving
-      served_given = s.0
+    -- what is so at the end
+    pub served : (k i : ℕ) (now : Marks) → Serving most n was k i now → 0 < most → (given d xs k (is_marked now) ≡ given d xs n (is_marked was)) × (k ≤ n) × (i ≡ length xs → (j : ℕ) → lack d (is_marked now) xs j < most) × (k ≡ n → now ≡ was)
+    unfolding Serving
+    served k i now s some = (s.0, s.1, λ e j. less_within d (is_marked now) xs i most e some s.3 j, s.4)
 
-      pub served_fewer : k ≤ n
-      unfolding Serving
-      served_fewer = s.1
-
-      pub served_less : i ≡ length xs → 0 < most → (j : ℕ) → lack d (is_marked now) xs j < most
-      unfolding Serving
-      served_less e some j = less_within d (is_marked now) xs i most e some s.3 j
-
-      pub served_same : k ≡ n → now ≡ was
-      unfolding Serving
-      served_same = s.4
-
-pub ruleset give_to = (serving_none, serving_next, serving_more, served_given, served_fewer, served_less, served_same)
+pub ruleset give_to = (serving_none, serving_next, serving_more, served)

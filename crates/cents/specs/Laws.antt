@@ -38,8 +38,8 @@ abbrev pub CentsPay : Type 0
 CentsPay =
     (e : Estate) (ks : List ℕ) (t : Terms) (r : _) → TermsFor e ks t → Comes shares_of (parts_word t) (shares_on t (counted e)) r → IsOkAnd r (λ c. Paid e t (cents_of shares_of c))
 
--- Of the shares of such an estate few numbers are what is lacking of a cent when they are rounded down: nothing, half a cent,
--- or one number that is the same for all.
+-- When the shares of such an estate are rounded down, what each creditor then lacks of its share is nothing, half a cent, or
+-- one other amount.
 abbrev pub FewRemainders : Type 0
 FewRemainders =
     (e : Estate) (ks : List ℕ) (t : Terms) → TermsFor e ks t → (r : ℕ)

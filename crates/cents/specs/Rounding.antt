@@ -12,9 +12,9 @@ abbrev pub rounded : ℕ → Bool → ℕ → ℕ
 rounded d up x = if up then div_ceil x d else x / d
 
 -- the shares of all, rounded up for whom `up` says
-unfoldable pub amounts : ℕ → (ℕ → Bool) → List ℕ → List ℕ
-amounts d up [] = []
-amounts d up (x ∷ xs) = rounded d (up 0) x ∷ amounts d (λ i. up (suc i)) xs
+unfoldable pub rounded_all : ℕ → (ℕ → Bool) → List ℕ → List ℕ
+rounded_all d up [] = []
+rounded_all d up (x ∷ xs) = rounded d (up 0) x ∷ rounded_all d (λ i. up (suc i)) xs
 
 -- what one lacks of its share then
 unfoldable pub lack : ℕ → (ℕ → Bool) → List ℕ → ℕ → ℕ
@@ -24,17 +24,20 @@ lack d up xs i = if up i then 0 else slice_index xs i % d
 unfoldable pub lacking : ℕ → List ℕ → ℕ
 lacking d xs = sum_by (λ x. x % d) xs
 
+-- the whole cents of all, when n more are given
+abbrev pub given : ℕ → List ℕ → ℕ → (ℕ → Bool) → List ℕ
+given d xs n up = give_left n d xs (rounded_all d up xs)
+
 module _ {L : Type 0} (items : L → List ℕ) where
   abbrev pub lacking_of : Rounding L → ℕ
   lacking_of r = lacking r.parts (items r.shares)
 
-  -- the whole cents of all, and what one lacks, where those who are marked have one of the cents that were left
+  -- and where those who are marked have one of the cents that were left
   abbrev pub cents_with : Rounding L → Marks → List ℕ
-  cents_with r more = amounts r.parts (is_marked more) (items r.shares)
+  cents_with r more = rounded_all r.parts (is_marked more) (items r.shares)
 
   abbrev pub lack_of : Rounding L → Marks → ℕ → ℕ
   lack_of r more i = lack r.parts (is_marked more) (items r.shares) i
 
-  -- and the whole cents when so many more are given
-  abbrev pub given : Rounding L → ℕ → Marks → List ℕ
-  given r n more = give_left n r.parts (items r.shares) (cents_with r more)
+  abbrev pub given_of : Rounding L → ℕ → Marks → List ℕ
+  given_of r n more = given r.parts (items r.shares) n (is_marked more)

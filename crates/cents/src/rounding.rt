@@ -15,10 +15,10 @@ pub(crate) struct Rounding<L> {
 }
 
 impl<L: Numbers> Rounding<L> {
-    ghost use Rattle.cents.specs.Rounding.{cents_with, given, lack_of, lacking_of};
+    ghost use Rattle.cents.specs.Rounding.{cents_with, given_of, lack_of, lacking_of};
 
     // What all together lack when each share is rounded down.
-    #[tactic(auto, using(crate::proofs::Left::counted))]
+    #[tactic(auto, using(crate::proofs::Left::lacking_steps))]
     pub(crate) fn lacking(&self) -> u128
         ensures { result ≡ lacking_of L.items self.now }
     {
@@ -31,7 +31,7 @@ impl<L: Numbers> Rounding<L> {
     }
 
     // What one lacks of its share: nothing, if it has one of the cents that were left.
-    #[tactic(auto, using(crate::proofs::Amounts::lacking), unfolding(crate::specs::Rounding::lack))]
+    #[tactic(auto, using(crate::proofs::Amounts::lack_steps), unfolding(crate::specs::Rounding::lack))]
     fn lack(&self, more: &Marks, i: usize) -> u64
         ensures { result ≡ lack_of L.items self.now more.now i }
     {
@@ -41,16 +41,15 @@ impl<L: Numbers> Rounding<L> {
         if more.has(i) { 0 } else { share % self.parts }
     }
 
-    // One who lacks most.
+    // The most that anybody lacks.
     #[tactic(auto, using(crate::proofs::Amounts::lack_past))]
-    fn lacks_most(&self, more: &Marks) -> usize
-        ensures { (i : ℕ) → lack_of L.items self.now more.now i ≤ lack_of L.items self.now more.now result }
+    fn most_lacked(&self, more: &Marks) -> u64
+        ensures most { (i : ℕ) → lack_of L.items self.now more.now i ≤ result }
+        ensures some { (i : ℕ) × (lack_of L.items self.now more.now i ≡ result) }
     {
         let mut most = 0;
-        for i in 1..self.shares.count() {
-            if self.lack(more, i) > self.lack(more, most) {
-                most = i;
-            }
+        for i in 0..self.shares.count() {
+            most = most.max(self.lack(more, i));
         }
         most
     }
@@ -67,7 +66,8 @@ impl<L: Numbers> Rounding<L> {
         let mut more = Marks::none();
         let mut left = cents;
         while left > 0 {
-            let most = self.lack(&more, self.lacks_most(&more));
+            let most = self.most_lacked(&more);
+            // nobody lacks anything: cents still left are nobody's. Of shares that add up there are none.
             if most == 0 {
                 break;
             }
@@ -83,7 +83,7 @@ impl<L: Numbers> Rounding<L> {
         requires few { length (L.items self.now.shares) ≤ most_creditors }
         requires some { 0 < most }
         requires most { (i : ℕ) → lack_of L.items self.now more.old i ≤ most }
-        ensures given { given L.items self.now result more.new ≡ given L.items self.now cents more.old }
+        ensures given { given_of L.items self.now result more.new ≡ given_of L.items self.now cents more.old }
         ensures fewer { result ≤ cents }
         ensures served { 0 < result → (i : ℕ) → lack_of L.items self.now more.new i < most }
         ensures same { result ≡ cents → more.new ≡ more.old }

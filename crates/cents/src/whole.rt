@@ -67,9 +67,9 @@ impl<L: Numbers> Numbers for Cents<L> {
     }
 }
 
-impl<L: Numbers + Copy> Cents<L> {
+impl<L: Numbers + Drop> Cents<L> {
     ghost use Rattle.cents.specs.Laws.{AllCome};
-    ghost use Rattle.cents.specs.Whole.{cents_of, Comes};
+    ghost use Rattle.cents.specs.Whole.{Comes};
 
     // The whole cents that come of shares, in parts of a cent.
     #[tactic(auto, using(crate::proofs::Left::new, crate::proofs::Pay::all_come))]
@@ -91,6 +91,10 @@ impl<L: Numbers + Copy> Cents<L> {
         let more = rounding.give(lacking / u128::from(parts));
         Ok(Cents { rounding, more })
     }
+}
+
+impl<L: Numbers> Cents<L> {
+    ghost use Rattle.cents.specs.Whole.{cents_of};
 
     // The answer to the call for cents.
     pub fn answer(self) -> Answer<Self>

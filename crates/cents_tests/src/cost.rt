@@ -25,9 +25,9 @@ impl Numbers for Counted<'_> {
 }
 
 // The parts of a cent, what each of the first 512 of 1,024 creditors has, what each of the others has, and how often each
-// share may be looked at: once to add up what is lacking, and three times for each amount that is lacked while cents are
-// left. Nobody lacks anything; all lack the same; and half lack more than the others, who have some of the cents left.
-const FEW: &[(u64, u64, u64, u64)] = &[(4, 8, 12, 1), (4, 3, 7, 4), (4, 3, 2, 7)];
+// share may be looked at: once to add up what is lacking, and twice for each amount that is lacked while cents are left.
+// Nobody lacks anything; all lack the same; and half lack more than the others, who have some of the cents left.
+const FEW: &[(u64, u64, u64, u64)] = &[(4, 8, 12, 1), (4, 3, 7, 3), (4, 3, 2, 5)];
 
 #[test]
 fn few_looks_where_few_amounts_are_lacked(rt: HostRuntime) -> Result<(), Fail> {
@@ -39,23 +39,23 @@ fn few_looks_where_few_amounts_are_lacked(rt: HostRuntime) -> Result<(), Fail> {
             looks: &Cell::new(0),
         };
         Cents::new(parts, counted)?;
-        assert!(rt; counted.looks.get() <= looks * 1025);
+        assert!(rt; counted.looks.get() <= looks * 1024);
     }
     Ok(())
 }
 
-// With 1,023 parts of a cent, and 0, 1, 2 up to 1,023 of them, 511 amounts are lacked by those who have the cents left.
+// Each has a part less than the one before it, and all together lack one cent for each but the last.
 #[test]
-fn more_looks_where_all_lack_something_else(rt: HostRuntime) -> Result<(), Fail> {
+fn most_looks_where_all_lack_something_else(rt: HostRuntime) -> Result<(), Fail> {
     let mut shares = [0; 1024];
     for (i, share) in shares.iter_mut().enumerate() {
-        *share = i as u64;
+        *share = 524_799 - i as u64;
     }
     let counted = Counted {
         shares: &shares,
         looks: &Cell::new(0),
     };
-    Cents::new(1023, counted)?;
-    assert!(rt; counted.looks.get() <= (1 + 3 * 511) * 1025);
+    Cents::new(524_800, counted)?;
+    assert!(rt; counted.looks.get() <= (1 + 2 * 1023) * 1024);
     Ok(())
 }

@@ -1,61 +1,30 @@
--- Whole cents add up, and nobody has a cent more or less than the share. Assumes nothing.
+-- Who is found to lack most; whole cents add up, and nobody has a cent more or less than the share. Assumes nothing.
 use Rattle.std.proofs.Common.{◌≡◌, ℕ, zero, suc, ◌+◌, ◌-◌, ◌*◌, ◌/◌, ◌<◌, ◌≤◌, Bool, true, false, cond, ltb, ◌⊎◌, List, [], ◌∷◌, length, get_or, sym, refl, ap, ◌∙◌, inl, inr, arith, sum}
 use native.Mathlib.Nat.{le_of_mul-le-mul_left, lt_of_mul-lt-mul_left, zero-div}
 use Rattle.std.proofs.lemmas.List.{length-map}
-use Rattle.std.proofs.lemmas.Bool.{ltb-true, ltb-false}
+use Rattle.std.proofs.lemmas.Bool.{ltb-true, ltb-false, lt-ltb, le-ltb}
 use Rattle.estate.specs.Cents.{downs, lacks_most, one_more, give_left, in_cents, Near}
 use Rattle.estate.specs.Promises.{CentsAddUp}
 use Rattle.estate.proofs.Facts.{facts}
 use Rattle.estate.proofs.Rows.{get_or-map_zero, inside, sum-cons, sum_apart}
 
 module _ (d : ℕ) where
-  module _ (xs ys : List ℕ) where
-    abbrev lacked : ℕ → ℕ
-    lacked j = get_or xs j 0 - d * get_or ys j 0
-
-    -- the one at j is the first of those who lack most, and lacks more than `most`
-    pub record LacksMost (most j : ℕ) : Type 0 where
-      pub more : most < lacked j
-      pub all : (k : ℕ) → lacked k ≤ lacked j
-      pub before : (k : ℕ) → k < j → lacked k < lacked j
-
-    -- what looking further comes to: nobody lacks more than `most`, and it is still the place `was`; or it is the place of
-    -- who lacks most
-    abbrev Found : ℕ → ℕ → ℕ → ℕ → Type 0
-    Found i most was r =
-        ((r ≡ was) × ((j : ℕ) → lacked j ≤ most)) ⊎ ((j : ℕ) × (r ≡ suc (i + j)) × LacksMost most j)
+  -- What looking further comes to: nobody lacks more than `most`, and it is still the place `was`; or the one at some j lacks
+  -- more, and it is that place.
+  abbrev Found : List ℕ → List ℕ → ℕ → ℕ → ℕ → ℕ → Type 0
+  Found xs ys i most was r =
+      ((r ≡ was) × ((j : ℕ) → get_or xs j 0 - d * get_or ys j 0 ≤ most)) ⊎ ((j : ℕ) × (r ≡ suc (i + j)) × (most < get_or xs j 0 - d * get_or ys j 0))
 
   module _ (x y i most was r : ℕ) (xs ys : List ℕ) where
-    -- the first of them, or one behind it
-    first_lacks : most < x - d * y → ((j : ℕ) → lacked xs ys j ≤ x - d * y) → LacksMost (x ∷ xs) (y ∷ ys) most 0
-    first_lacks h less = record { more = h; all = all; before = λ k l. absurd (omega (arith, l)) }
-      where
-        all : (k : ℕ) → lacked (x ∷ xs) (y ∷ ys) k ≤ x - d * y
-        all zero = omega arith
-        all (suc k) = less k
-
-    later_lacks : (n j : ℕ) → most ≤ n → x - d * y ≤ n → LacksMost xs ys n j → LacksMost (x ∷ xs) (y ∷ ys) most (suc j)
-    later_lacks n j h l p = record { more = omega (arith, p.more); all = all; before = before }
-      where
-        all : (k : ℕ) → lacked (x ∷ xs) (y ∷ ys) k ≤ lacked xs ys j
-        all zero = omega (arith, p.more, l)
-        all (suc k) = p.all k
-
-        before : (k : ℕ) → k < suc j → lacked (x ∷ xs) (y ∷ ys) k < lacked xs ys j
-        before zero b = omega (arith, p.more, l)
-        before (suc k) b = p.before k (omega (arith, b))
-
     found_more : (b : Bool) → ltb most (x - d * y) ≡ b → Found xs ys (suc i) (cond b (x - d * y) most) (cond b (suc i) was) r → Found (x ∷ xs) (y ∷ ys) i most was r
-    found_more true t (inl p) = inr (0, omega (arith, p.0), first_lacks (ltb-true _ _ t) p.1)
-    found_more true t (inr p) =
-        inr (suc p.0, omega (arith, p.1), later_lacks (x - d * y) p.0 (omega (arith, ltb-true _ _ t)) (omega arith) p.2)
+    found_more true t (inl p) = inr (0, omega (arith, p.0), ltb-true _ _ t)
+    found_more true t (inr p) = inr (suc p.0, omega (arith, p.1), omega (arith, p.2, ltb-true _ _ t))
     found_more false t (inl p) = inl (p.0, none)
       where
-        none : (j : ℕ) → lacked (x ∷ xs) (y ∷ ys) j ≤ most
+        none : (j : ℕ) → get_or (x ∷ xs) j 0 - d * get_or (y ∷ ys) j 0 ≤ most
         none zero = ltb-false _ _ t
         none (suc j) = p.1 j
-    found_more false t (inr p) =
-        inr (suc p.0, omega (arith, p.1), later_lacks most p.0 (omega arith) (ltb-false _ _ t) p.2)
+    found_more false t (inr p) = inr (suc p.0, omega (arith, p.1), p.2)
 
   found : (xs ys : List ℕ) → length xs ≡ length ys → (i most was : ℕ) → Found xs ys i most was (lacks_most d xs ys i most was)
   unfolding lacks_most
@@ -65,22 +34,31 @@ module _ (d : ℕ) where
       let b : Bool = ltb most (x - d * y) in
       found_more x y i most was _ xs ys b refl (found xs ys (omega arith) (suc i) (cond b (x - d * y) most) (cond b (suc i) was))
 
-  -- who lacks most is the one that is found, and nobody where nobody lacks anything
-  module _ (xs ys : List ℕ) (paired : length xs ≡ length ys) where
-    one_most : (j r : ℕ) → LacksMost xs ys 0 j → Found xs ys 0 0 0 r → r ≡ suc j
-    one_most j r m (inl p) = absurd (omega (arith, m.more, p.1 j))
-    one_most j r m (inr p) =
-        grind (arith, p.1, m.all p.0, p.2.all j, m.before p.0, p.2.before j)
+module _ (d : ℕ) where
+  abbrev lacked : List ℕ → List ℕ → ℕ → ℕ
+  lacked xs ys j = get_or xs j 0 - d * get_or ys j 0
 
-    pub most_found : (j : ℕ) → LacksMost xs ys 0 j → lacks_most d xs ys 0 0 0 ≡ suc j
-    most_found j m = one_most j _ m (found xs ys paired 0 0 0)
+  -- where nobody lacks more than `most`, no other place is found
+  pub none_found : (xs ys : List ℕ) (i most was : ℕ) → ((j : ℕ) → lacked xs ys j ≤ most) → lacks_most d xs ys i most was ≡ was
+  unfolding lacks_most
+  none_found [] ys i most was h = refl
+  none_found (x ∷ xs) [] i most was h = refl
+  none_found (x ∷ xs) (y ∷ ys) i most was h =
+      rw (le-ltb most (x - d * y) (h 0)) (none_found xs ys (suc i) most was (λ j. h (suc j)))
 
-    nobody : (r : ℕ) → ((j : ℕ) → lacked xs ys j ≤ 0) → Found xs ys 0 0 0 r → r ≡ 0
-    nobody r h (inl p) = p.0
-    nobody r h (inr p) = absurd (omega (arith, h p.0, p.2.more))
-
-    pub nobody_found : ((j : ℕ) → lacked xs ys j ≤ 0) → lacks_most d xs ys 0 0 0 ≡ 0
-    nobody_found h = nobody _ h (found xs ys paired 0 0 0)
+  -- otherwise the first of those who lack most is found
+  pub first_found : (xs ys : List ℕ) (j i most was : ℕ) → length xs ≡ length ys → most < lacked xs ys j → ((k : ℕ) → lacked xs ys k ≤ lacked xs ys j) → ((k : ℕ) → k < j → lacked xs ys k < lacked xs ys j) → lacks_most d xs ys i most was ≡ suc (i + j)
+  unfolding lacks_most
+  first_found [] ys j i most was l more all before = absurd (omega (arith, more))
+  first_found (x ∷ xs) [] j i most was l more all before = absurd (omega (arith, l))
+  first_found (x ∷ xs) (y ∷ ys) zero i most was l more all before =
+      rw (lt-ltb most (x - d * y) more) (omega (arith, none_found xs ys (suc i) (x - d * y) (suc i) (λ k. all (suc k))))
+  first_found (x ∷ xs) (y ∷ ys) (suc j) i most was l more all before =
+      next (ltb most (x - d * y)) (λ m w h. first_found xs ys j (suc i) m w (omega (arith, l)) h (λ k. all (suc k)) (λ k b. before (suc k) (omega (arith, b))))
+    where
+      next : (b : Bool) → ((m w : ℕ) → m < lacked xs ys j → lacks_most d xs ys (suc i) m w ≡ suc (suc i + j)) → lacks_most d xs ys (suc i) (cond b (x - d * y) most) (cond b (suc i) was) ≡ suc (i + suc j)
+      next true f = omega (arith, f (x - d * y) (suc i) (before 0 (omega arith)))
+      next false f = omega (arith, f most was more)
 
 -- what is true of each at its place stays so, if it is true of the one who has one more
 one_more_each : (P : ℕ → ℕ → Type 0) (ys : List ℕ) (j : ℕ) → ((i : ℕ) → P i (get_or ys i 0)) → P j (suc (get_or ys j 0)) → (i : ℕ) → P i (get_or (one_more ys (suc j)) i 0)
@@ -134,8 +112,8 @@ module _ (d e : ℕ) (xs : List ℕ) (parted : 0 < d) (whole : sum xs ≡ d * e)
       let is : place ≡ suc j = omega (arith, p.1) in
       rw is (record {
         paired = r.paired ∙ sym (length-one_more ys j);
-        given = omega (arith, r.given, sum-one_more ys j (omega (arith, r.paired, inside xs j (omega (arith, p.2.more)))));
-        near = one_more_each (λ i y. Near d (get_or xs i 0) y) ys j r.near (omega (arith, p.2.more), omega (arith, r.near j));
+        given = omega (arith, r.given, sum-one_more ys j (omega (arith, r.paired, inside xs j (omega (arith, p.2)))));
+        near = one_more_each (λ i y. Near d (get_or xs i 0) y) ys j r.near (omega (arith, p.2), omega (arith, r.near j));
       })
 
   rounded_all : (n : ℕ) (ys : List ℕ) → Rounded d n e xs ys → Rounded d 0 e xs (give_left n d xs ys)
@@ -143,8 +121,8 @@ module _ (d e : ℕ) (xs : List ℕ) (parted : 0 < d) (whole : sum xs ≡ d * e)
   rounded_all zero ys r = r
   rounded_all (suc n) ys r = rounded_all n _ (rounded_more n ys r _ (found d xs ys r.paired 0 0 0))
 
-  pub rounded : Rounded d 0 e xs (in_cents d e xs)
-  rounded = rounded_all _ _ rounded_down
+  pub cents_rounded : Rounded d 0 e xs (in_cents d e xs)
+  cents_rounded = rounded_all _ _ rounded_down
 
 none_above_claim : (d c x y : ℕ) → Near d x y → x ≤ d * c → y ≤ c
 none_above_claim d c x y h b =
@@ -154,7 +132,7 @@ none_above_claim d c x y h b =
 pub cents_add_up : CentsAddUp
 cents_add_up d e cs xs h =
     let p = facts d e cs xs h in
-    let r = rounded d e xs p.parted p.whole in
+    let r = cents_rounded d e xs p.parted p.whole in
     record {
       paired = sym r.paired ∙ p.paired;
       whole = omega (arith, r.given);

@@ -36,18 +36,18 @@ module _ (e : Estate) (ks : List ℕ) (t : Terms) (f : TermsFor e ks t) where
       let rest = no_word_short cs (All-tail (λ k. share_by t k ≤ 2 * most_claimed) c cs h) in
       cc
 
-  pub shares : shares_on t (counted e) ≡ map (share_by t) (counted e)
-  shares = no_word_short (counted e) share_small
+  pub shares_exact : shares_on t (counted e) ≡ map (share_by t) (counted e)
+  shares_exact = no_word_short (counted e) share_small
 
-  pub cent : parts_word t ≡ parts_of t
-  cent = omega (arith, small.parts)
+  pub parts_exact : parts_word t ≡ parts_of t
+  parts_exact = omega (arith, small.parts)
 
   divided_by : Divided e t
   unfolding says
   divided_by = record {
-    few = omega (arith, cent, right.parts, denominator_few (divided e) (counted e));
-    divides = rw (cent, shares) right.divides;
-    said = cc (cent, right.parts, shares, right.shares);
+    few = omega (arith, parts_exact, right.parts, denominator_few (divided e) (counted e));
+    divides = rw (parts_exact, shares_exact) right.divides;
+    said = cc (parts_exact, right.parts, shares_exact, right.shares);
   }
 
 pub shares_divide : SharesDivide
