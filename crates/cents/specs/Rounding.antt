@@ -1,4 +1,4 @@
--- Shares in parts of a cent, and what is lacking when they are rounded. Assumes nothing.
+-- Shares rounded to whole cents, and what is then lacking. Assumes nothing.
 use Rattle.std.specs.Prelude.{ℕ, suc, ◌/◌, ◌%◌, Bool, List, [], ◌∷◌, if◌then◌else◌, slice_index}
 use Rattle.std.specs.Int.{div_ceil}
 use Rattle.std.specs.List.{sum_by}
@@ -29,10 +29,10 @@ abbrev pub given : ℕ → List ℕ → ℕ → (ℕ → Bool) → List ℕ
 given d xs n up = give_left n d xs (rounded_all d up xs)
 
 module _ {L : Type 0} (items : L → List ℕ) where
+  -- the same of a `Rounding`, whose shares are rounded up for who is marked
   abbrev pub lacking_of : Rounding L → ℕ
   lacking_of r = lacking r.parts (items r.shares)
 
-  -- and where those who are marked have one of the cents that were left
   abbrev pub cents_with : Rounding L → Marks → List ℕ
   cents_with r more = rounded_all r.parts (is_marked more) (items r.shares)
 
