@@ -7,6 +7,7 @@ use Rattle.std.specs.Option.{option_map}
 use Rattle.std.proofs.lemmas.Grind.{div_ceil_times}
 use Rattle.estate.specs.Cents.{one_more}
 use Rattle.wire.specs.Bytes.{Fitting}
+use Rattle.shares.proofs.Words.{word_more}
 use Rattle.cents.specs.Rounding.{rounded, rounded_all, lack}
 
 module _ (d : ℕ) where
@@ -80,3 +81,5 @@ pub ruleset count = (length-rounded_all, fits)
 pub ruleset get = (slice_get-rounded_all)
 
 pub ruleset lack_steps = (gets, lack_past)
+
+pub ruleset write = (word_more, gets)

@@ -3,6 +3,5 @@ pub mod Amounts
 pub mod Left
 pub mod Giving
 pub mod Serving
-pub mod Written
 pub mod Pay
 pub mod Remainders

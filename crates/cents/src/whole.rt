@@ -104,7 +104,7 @@ impl<L: Numbers> Cents<L> {
     }
 
     // Writes the cents at the start of lent words, and says how many there are.
-    #[tactic(auto, using(crate::proofs::Written::write))]
+    #[tactic(auto, using(crate::proofs::Amounts::write))]
     pub fn write(&self, out: &mut [u64]) -> Result<usize, Refusal>
         ensures { Written (cents_of L.items self.now) out.old out.new result }
     {

@@ -9,11 +9,14 @@ use Rattle.estate.proofs.Facts.{facts}
 use Rattle.estate.proofs.Rows.{get_or-map_zero, inside, sum-cons, sum_apart}
 
 module _ (d : ℕ) where
+  abbrev lacked : List ℕ → List ℕ → ℕ → ℕ
+  lacked xs ys j = get_or xs j 0 - d * get_or ys j 0
+
   -- What looking further comes to: nobody lacks more than `most`, and it is still the place `was`; or the one at some j lacks
   -- more, and it is that place.
   abbrev Found : List ℕ → List ℕ → ℕ → ℕ → ℕ → ℕ → Type 0
   Found xs ys i most was r =
-      ((r ≡ was) × ((j : ℕ) → get_or xs j 0 - d * get_or ys j 0 ≤ most)) ⊎ ((j : ℕ) × (r ≡ suc (i + j)) × (most < get_or xs j 0 - d * get_or ys j 0))
+      ((r ≡ was) × ((j : ℕ) → lacked xs ys j ≤ most)) ⊎ ((j : ℕ) × (r ≡ suc (i + j)) × (most < lacked xs ys j))
 
   module _ (x y i most was r : ℕ) (xs ys : List ℕ) where
     found_more : (b : Bool) → ltb most (x - d * y) ≡ b → Found xs ys (suc i) (cond b (x - d * y) most) (cond b (suc i) was) r → Found (x ∷ xs) (y ∷ ys) i most was r
@@ -21,7 +24,7 @@ module _ (d : ℕ) where
     found_more true t (inr p) = inr (suc p.0, omega (arith, p.1), omega (arith, p.2, ltb-true _ _ t))
     found_more false t (inl p) = inl (p.0, none)
       where
-        none : (j : ℕ) → get_or (x ∷ xs) j 0 - d * get_or (y ∷ ys) j 0 ≤ most
+        none : (j : ℕ) → lacked (x ∷ xs) (y ∷ ys) j ≤ most
         none zero = ltb-false _ _ t
         none (suc j) = p.1 j
     found_more false t (inr p) = inr (suc p.0, omega (arith, p.1), p.2)
@@ -33,10 +36,6 @@ module _ (d : ℕ) where
   found (x ∷ xs) (y ∷ ys) l i most was =
       let b : Bool = ltb most (x - d * y) in
       found_more x y i most was _ xs ys b refl (found xs ys (omega arith) (suc i) (cond b (x - d * y) most) (cond b (suc i) was))
-
-module _ (d : ℕ) where
-  abbrev lacked : List ℕ → List ℕ → ℕ → ℕ
-  lacked xs ys j = get_or xs j 0 - d * get_or ys j 0
 
   -- where nobody lacks more than `most`, no other place is found
   pub none_found : (xs ys : List ℕ) (i most was : ℕ) → ((j : ℕ) → lacked xs ys j ≤ most) → lacks_most d xs ys i most was ≡ was

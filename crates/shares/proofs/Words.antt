@@ -12,15 +12,19 @@ fits t [] i = omega arith
 fits t (c ∷ cs) zero = omega arith
 fits t (c ∷ cs) (suc i) = fits t cs i
 
--- the i-th is written behind those before it
-pub put_more : (i n : ℕ) (ns before : List ℕ) → i < length ns → length ns ≤ length before → n ≡ get_or ns i 0 → slice_set (take i ns ++ drop i before) i n ≡ take (suc i) ns ++ drop (suc i) before
+-- the i-th of numbers is written behind those before it
+put_more : (i n : ℕ) (ns before : List ℕ) → i < length ns → length ns ≤ length before → n ≡ get_or ns i 0 → slice_set (take i ns ++ drop i before) i n ≡ take (suc i) ns ++ drop (suc i) before
 put_more i n [] before lt room e = absurd (omega arith)
 put_more i n (m ∷ ms) [] lt room e = absurd (omega arith)
 put_more zero n (m ∷ ms) (b ∷ bs) lt room e = ap (λ x. x ∷ bs) e
 put_more (suc i) n (m ∷ ms) (b ∷ bs) lt room e = ap (λ l. m ∷ l) (put_more i n ms bs (omega arith) (omega arith) e)
 
-pub share_more : (i x : ℕ) (t : Terms) (cs before out : List ℕ) → i < length cs → length cs ≤ length before → x ≡ share_word t (get_or cs i 0) → out ≡ take i (map (share_word t) cs) ++ drop i before → slice_set out i x ≡ take (i + 1) (map (share_word t) cs) ++ drop (i + 1) before
-share_more i x t cs before out lt room e h =
-    simp unary_clauses (rw h (put_more i x (map (share_word t) cs) before (omega (arith, length-map cs (share_word t))) (omega (arith, length-map cs (share_word t))) (e ∙ sym (get_or-map (share_word t) cs i 0 0 lt))))
+pub word_more : (i n : ℕ) (ns before out : List ℕ) → out ≡ take i ns ++ drop i before → length ns ≤ length before → i < length ns → n ≡ get_or ns i 0 → slice_set out i n ≡ take (i + 1) ns ++ drop (i + 1) before
+word_more i n ns before out h room lt e = simp unary_clauses (rw h (put_more i n ns before lt room e))
+
+pub share_at : (i x : ℕ) (t : Terms) (cs : List ℕ) → i < length cs → x ≡ share_word t (get_or cs i 0) → x ≡ get_or (map (share_word t) cs) i 0
+share_at i x t cs lt e = e ∙ sym (get_or-map (share_word t) cs i 0 0 lt)
+
+pub ruleset write_steps = (word_more, share_at, length-map)
 
 pub ruleset get = (slice_get-map)

@@ -59,7 +59,7 @@ impl Shares<'_> {
     }
 
     // Writes the shares at the start of lent words, and says how many there are.
-    #[tactic(auto, using(crate::proofs::Words::share_more, crate::proofs::Carried::write))]
+    #[tactic(auto, using(crate::proofs::Words::write_steps, crate::proofs::Carried::write))]
     pub fn write(&self, out: &mut [u64]) -> Result<usize, Refusal>
         ensures written { Written (shares_of self.now) out.old out.new result }
         ensures shares_divide { SharesDivide }
