@@ -9,7 +9,7 @@ use crate::list::AnswerList;
 use std::io::Read;
 use std::rt::{Env, Files};
 use std::{env, fs, io};
-use wire::{Answer, Calls, Numbers};
+use wire::{Answer, Call, Calls, Numbers};
 
 // The bytes of the file that the first argument names, or of standard input.
 fn input(rt: &(impl Env + Files + Input + AllocGlobal)) -> io::Result<Vec<u8>> {
@@ -47,8 +47,8 @@ fn print_list(rt: &impl Print, list: &AnswerList<'_>, before: &str) -> io::Resul
 fn run(rt: &(impl Env + Files + Input + Print + AllocGlobal)) -> anyhow::Result<()> {
     let calls = input(rt)?;
     let mut ledger = Ledger::new();
-    for call in Calls(&calls) {
-        print(rt, &ledger.answer(call))?;
+    for bytes in Calls(&calls) {
+        print(rt, &ledger.answer(Call::decode(bytes)))?;
     }
     Ok(())
 }

@@ -1,6 +1,6 @@
 -- What reading a call, and taking the first off a row of calls, says of the bytes. Assumes nothing.
-use Rattle.std.proofs.Common.{◌≡◌, ℕ, zero, suc, ◌-◌, ◌<◌, ◌≤◌, List, ◌++◌, length, get_or, take, drop, replicate, sym, refl, ap, ◌∙◌, arith, length-append, length-drop}
-use Rattle.std.proofs.lemmas.List.{places, take_at, drop_at}
+use Rattle.std.proofs.Common.{◌≡◌, ℕ, zero, suc, ◌-◌, ◌<◌, ◌≤◌, List, ◌++◌, length, get_or, take, drop, replicate, sym, refl, ap, ◌∙◌, arith, length-append, take-append-drop}
+use Rattle.std.proofs.lemmas.List.{places, nil_from_length, take_at, drop_at}
 use Rattle.std.proofs.lemmas.Bool.Decides.{nat_tests}
 use Rattle.estate.specs.Calls.{Call, shares, garbled}
 use Rattle.wire.specs.Bytes.{Bytes, row}
@@ -56,15 +56,14 @@ row_first bs c behind s same =
     let known = s.known in
     rw first (grind (arith, nat_tests))
 
-pub split_by : (bs rest : List ℕ) (c : Call) → Heard (take (first_extent bs) bs) c → rest ≡ drop (first_extent bs) bs → Split bs c rest
-split_by bs rest c h e = record {
-  said = h;
-  left = e;
-  shorter = λ some.
-      let taken : 0 < first_extent bs = grind (arith, nat_tests) in
-      omega (arith, ap length e, length-drop (first_extent bs) bs);
+pub split_by : (bs first rest : List ℕ) → first ≡ take (first_extent bs) bs → rest ≡ drop (first_extent bs) bs → Split bs first rest
+split_by bs first rest t l = record {
+  taken = t;
+  left = l;
+  whole = rw (t, l) (sym (take-append-drop _ bs));
+  shorter = λ some. grind (arith, nat_tests, places);
   next = λ k behind s same.
-      let front = take_at (call_row k) behind (first_extent bs) (row_first bs k behind s same) in
-      let back = drop_at (call_row k) behind (first_extent bs) (row_first bs k behind s same) in
-      (h.back k s (cc), cc);
+      let all = row_first bs k behind s same in
+      (cc (take_at (call_row k) behind _ all), cc (drop_at (call_row k) behind _ all));
+  unread = λ p e. nil_from_length rest (grind (arith, nat_tests, places));
 }

@@ -54,15 +54,18 @@ pub record Heard (bs : List ℕ) (c : Call) : Type 0 where
   pub first : (p : ℕ) → c ≡ garbled p → FirstMisfit bs p
   pub back : (k : Call) → Sendable k → call_row k ≡ bs → c ≡ narrow k
 
--- What taking the first call c off the bytes bs says, with rest behind it: it is what the first bytes are; something is
--- taken, if there is something; and of the bytes of a call with others behind them it is that call, and those are left.
-pub record Split (bs : List ℕ) (c : Call) (rest : List ℕ) : Type 0 where
-  pub said : Heard (take (first_extent bs) bs) c
+-- What taking the first call off the bytes bs says, where first are its bytes and rest those behind them: together they are
+-- all; something is taken, if there is something; of the bytes of a call with others behind them these are taken, and those
+-- are left; and behind a call that cannot be read none are left.
+pub record Split (bs first rest : List ℕ) : Type 0 where
+  pub taken : first ≡ take (first_extent bs) bs
   pub left : rest ≡ drop (first_extent bs) bs
+  pub whole : bs ≡ first ++ rest
   pub shorter : 0 < length bs → length rest < length bs
-  pub next : (k : Call) (behind : List ℕ) → Sendable k → bs ≡ call_row k ++ behind → (c ≡ narrow k) × (rest ≡ behind)
+  pub next : (k : Call) (behind : List ℕ) → Sendable k → bs ≡ call_row k ++ behind → (first ≡ call_row k) × (rest ≡ behind)
+  pub unread : (p : ℕ) → read first ≡ garbled p → rest ≡ []
 
 -- What taking a call off a row of them says, with rest behind it: none where no bytes are left, and else the first.
-abbrev pub Takes : List ℕ → Option Call → List ℕ → Type 0
+abbrev pub Takes : List ℕ → Option (List ℕ) → List ℕ → Type 0
 Takes bs None rest = (bs ≡ []) × (rest ≡ [])
-Takes bs (Some c) rest = (0 < length bs) × Split bs c rest
+Takes bs (Some first) rest = (0 < length bs) × Split bs first rest

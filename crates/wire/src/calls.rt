@@ -1,7 +1,7 @@
 // Calls as rows of bytes.
 ghost use Rattle.std.specs.Prelude.{◌≡◌, ◌+◌, ◌≤◌, min, length, IfOk, IfErr};
 ghost use Rattle.std.specs.Iterator.{at_most};
-ghost use Rattle.std.specs.Option.{option_map};
+ghost use Rattle.std.specs.Option.{option_copied};
 ghost use Rattle.estate.specs.Calls.{garbled};
 ghost use Rattle.wire.specs.Bytes.{number_at};
 ghost use Rattle.wire.specs.Calls.{call_row, Sendable, narrow};
@@ -59,33 +59,34 @@ impl Call {
         Ok(call_at(kind, bytes))
     }
 
-    // The first of a row of calls with nothing between them, and the bytes behind it. Where it cannot be read none are left.
-    pub fn split_first(calls: &[u8]) -> (Result<Call, Garbled>, &[u8])
-        ensures { Split calls.now (heard result.0) result.1.now }
+    // The bytes of the first of a row of calls with nothing between them, and those behind it: none where the first cannot
+    // be read.
+    #[tactic(auto, using(crate::proofs::Misfits::split_by))]
+    pub fn split_first(calls: &[u8]) -> (&[u8], &[u8])
+        ensures { Split calls.now result.0.now result.1.now }
     {
-        let (first, rest) = calls.split_at(end_of_first(calls));
-        (Call::decode(first), rest)
+        calls.split_at(end_of_first(calls))
     }
 }
 
-// The calls of a row of bytes, one after the other. Behind one that cannot be read none are left.
+// The bytes of each of a row of calls, one after the other. Behind one that cannot be read none are left.
 #[derive(Clone, Debug, Drop)]
 pub struct Calls<'a>(pub &'a [u8]);
 
 impl<'a> Iterator for Calls<'a> {
-    type Item = Result<Call, Garbled>;
+    type Item = &'a [u8];
 
-    ghost next_gives = { λ old call new. Takes old.0.now (option_map heard call) new.0.now };
+    ghost next_gives = { λ old call new. Takes old.0.now (option_copied call) new.0.now };
 
     ghost remaining = { λ calls. at_most (length calls.0.now) };
 
-    fn next(&mut self) -> Option<Result<Call, Garbled>> {
+    fn next(&mut self) -> Option<&'a [u8]> {
         if self.0.is_empty() {
             return None;
         }
-        let (call, rest) = Call::split_first(self.0);
+        let (first, rest) = Call::split_first(self.0);
         self.0 = rest;
-        Some(call)
+        Some(first)
     }
 }
 

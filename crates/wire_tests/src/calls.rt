@@ -86,31 +86,42 @@ fn places_past_32_bits(rt: HostRuntime) {
     assert_eq!(rt; Call::decode(last), Ok(Call::Prove(4294967295, 5)));
 }
 
-// Calls follow each other with nothing between. The last is cut short; behind an unknown one nothing can be read.
+// Calls that follow each other with nothing between. The last is cut short.
+const IN_A_ROW: &[u8] = b"\x03\x02\x07\0\0\0\0\0\0\0\x04\x00\x01";
+
+// The bytes of each, and what they are read as.
+const EACH: &[(&[u8], Result<Call, Garbled>)] = &[
+    (b"\x03", Ok(Call::Shares)),
+    (b"\x02\x07\0\0\0\0\0\0\0", Ok(Call::Come(7))),
+    (b"\x04", Ok(Call::Cents)),
+    (b"\x00\x01", Err(Garbled(2))),
+];
+
+// One after the other is split off, until none is left. Behind an unknown one nothing can be read.
 #[test]
 fn calls_one_by_one(rt: HostRuntime) {
-    let file = b"\x03\x02\x07\0\0\0\0\0\0\0\x04\x00\x01";
-    let (first, rest) = Call::split_first(file);
-    assert_eq!(rt; first, Ok(Call::Shares));
-    let (second, rest) = Call::split_first(rest);
-    assert_eq!(rt; second, Ok(Call::Come(7)));
-    let (third, rest) = Call::split_first(rest);
-    assert_eq!(rt; third, Ok(Call::Cents));
-    let (fourth, rest) = Call::split_first(rest);
-    assert_eq!(rt; fourth, Err(Garbled(2)));
+    let mut rest = IN_A_ROW;
+    for &(row, call) in EACH {
+        let (first, behind) = Call::split_first(rest);
+        assert_eq!(rt; first, row);
+        assert_eq!(rt; Call::decode(first), call);
+        rest = behind;
+    }
     assert!(rt; rest.is_empty());
-    let (unknown, rest) = Call::split_first(b"\x09\x03\x03");
-    assert_eq!(rt; unknown, Err(Garbled(0)));
+    let all: &[u8] = b"\x09\x03\x03";
+    let (unknown, rest) = Call::split_first(all);
+    assert_eq!(rt; unknown, all);
+    assert_eq!(rt; Call::decode(unknown), Err(Garbled(0)));
     assert!(rt; rest.is_empty());
 }
 
 // The same, taken by turns: after the last there is none.
 #[test]
 fn calls_in_turn(rt: HostRuntime) {
-    let mut calls = Calls(b"\x03\x02\x07\0\0\0\0\0\0\0\x04\x00\x01");
-    assert_eq!(rt; calls.next(), Some(Ok(Call::Shares)));
-    assert_eq!(rt; calls.next(), Some(Ok(Call::Come(7))));
-    assert_eq!(rt; calls.next(), Some(Ok(Call::Cents)));
-    assert_eq!(rt; calls.next(), Some(Err(Garbled(2))));
+    let mut calls = Calls(IN_A_ROW);
+    for &(row, call) in EACH {
+        assert_eq!(rt; calls.next(), Some(row));
+        assert_eq!(rt; Call::decode(row), call);
+    }
     assert_eq!(rt; calls.next(), None);
 }
