@@ -1,5 +1,5 @@
 -- Which calls are turned away, by which number and at which place. Assumes nothing.
-use Rattle.std.specs.Prelude.{ℕ, ◌+◌, Bool, false, List, [], ◌∷◌, length, if◌then◌else◌, ◌==◌, nat_le, nat_lt}
+use Rattle.std.specs.Prelude.{ℕ, ◌+◌, Bool, false, List, [], ◌∷◌, ◌++◌, length, if◌then◌else◌, ◌==◌, nat_le, nat_lt}
 use Rattle.estate.specs.Calls.{Call, claims, proves, comes, shares, cents, garbled}
 use Rattle.estate.specs.Limits.{Limits, most_cents, most_there}
 use Rattle.estate.specs.Estates.{Estate, amount, counted}
@@ -28,15 +28,27 @@ pub record Check : Type 0 where
 abbrev pub check : Bool → ℕ → Check
 check b n = record { holds = b; refusal = n }
 
--- what is checked of a call, in the order of the numbers
+-- What is checked of a call by itself.
+abbrev pub checks_alone : Call → List Check
+checks_alone (claims c) = check (nat_le c most_cents) too_large ∷ []
+checks_alone (proves i c) = check (nat_le c most_cents) too_large ∷ []
+checks_alone (comes x) = check (nat_le x most_cents) too_large ∷ []
+checks_alone shares = []
+checks_alone cents = []
+checks_alone (garbled n) = check false unreadable ∷ []
+
+-- What is checked of it beside the estate.
+abbrev pub checks_beside : Limits → Estate → Call → List Check
+checks_beside l e (claims c) = check (nat_lt (length (counted e)) l.creditors) no_room ∷ []
+checks_beside l e (proves i c) = check (nat_lt i (length (counted e))) not_there ∷ []
+checks_beside l e (comes x) = check (nat_le (amount e + x) most_there) no_room ∷ []
+checks_beside l e shares = []
+checks_beside l e cents = []
+checks_beside l e (garbled n) = []
+
+-- all that is checked, in the order of the numbers
 abbrev pub checks : Limits → Estate → Call → List Check
-checks l e (claims c) =
-    check (nat_le c most_cents) too_large ∷ check (nat_lt (length (counted e)) l.creditors) no_room ∷ []
-checks l e (proves i c) = check (nat_le c most_cents) too_large ∷ check (nat_lt i (length (counted e))) not_there ∷ []
-checks l e (comes x) = check (nat_le x most_cents) too_large ∷ check (nat_le (amount e + x) most_there) no_room ∷ []
-checks l e shares = []
-checks l e cents = []
-checks l e (garbled n) = check false unreadable ∷ []
+checks l e c = checks_alone c ++ checks_beside l e c
 
 -- the first refusal of a row of checks, or 0
 abbrev pub first_refusal : List Check → ℕ

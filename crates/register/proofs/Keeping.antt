@@ -28,7 +28,7 @@ module _ (xs ks row : List ℕ) (m n : ℕ) (long : length xs ≡ m) where
   second_put new more same = ext_get_or 0 _ _ (grind (arith, places)) (λ k h. grind (arith, places))
 
 module _ (ws cs : List ℕ) (room : length cs ≤ middle ws) where
-  kept_long : length (kept ws cs) ≡ length ws
+  pub kept_long : length (kept ws cs) ≡ length ws
   kept_long = grind (arith, places, length-sorted cs)
 
   pub kept_middle : middle (kept ws cs) ≡ middle ws

@@ -1,0 +1,160 @@
+-- What the calls that change a desk leave. Assumes nothing.
+use Rattle.std.proofs.Common.{◌≡◌, ℕ, false, ◌==◌, ◌+◌, ◌*◌, ◌<◌, ◌≤◌, List, [], ◌∷◌, ◌++◌, length, take, drop, slice_index, slice_set, Ok, Err, sym, refl, ap, ◌∙◌, arith}
+use borrow.Rule.Slice.PartMut.{put_mid}
+use Rattle.std.proofs.lemmas.List.{places, take-append-drop, length_push, drop-set-lt, length-set, length-take-le, length-drop}
+use Rattle.std.proofs.lemmas.Slice.{drop-put_mid}
+use Rattle.std.proofs.lemmas.Bool.Decides.{nat_tests}
+use Rattle.estate.specs.Answers.{Answer, number, refused}
+use Rattle.estate.specs.Refusals.{turned, place}
+use Rattle.estate.specs.Calls.{Call, claims, proves, comes}
+use Rattle.estate.specs.Changes.{changed}
+use Rattle.estate.specs.Limits.{most_cents, most_there}
+use Rattle.estate.specs.Right.{says}
+use Rattle.register.specs.Rows.{middle, Unchanged}
+use Rattle.register.specs.declared.rows.Unfit.{Unfit}
+use Rattle.register.specs.declared.rows.Unfit.TheVariants as unfit
+use Rattle.wire.specs.declared.refusals.TurnedAway.{TurnedAway}
+use Rattle.wire.specs.declared.refusals.Refusal.TheVariants.{NoRoom, NotThere}
+use Rattle.desk.specs.Memory.{header_words, register, words_asked, layout, limits_of, estate_of, rest_of, Headed, Stands}
+use Rattle.desk.specs.Headers.{Grown, Altered, Unaltered}
+use Rattle.desk.specs.Calling.{Served, SameBounds, Does}
+use Rattle.desk.proofs.Words.{claims_counted, register_added, register_changed, register_ordered, comes_writes, claims_writes, proves_writes, body}
+
+-- a call that is not turned away, of a desk
+served_by : (c : Call) (m new : List ℕ) (a : Answer) → turned (limits_of m) (estate_of m) c ≡ 0 → new ≡ layout (limits_of m) (changed (estate_of m) c) ++ rest_of m → a ≡ says (estate_of m) c → Served c m new a
+served_by c m new a t w s = record { memory = rw t w; answer = rw t s }
+
+-- a call that is turned away
+pub refused_by : (c : Call) (m : List ℕ) (a : Answer) → (turned (limits_of m) (estate_of m) c == 0) ≡ false → a ≡ refused (turned (limits_of m) (estate_of m) c) (place c (turned (limits_of m) (estate_of m) c)) → Stands m → Served c m m a
+refused_by c m a t s d = record { memory = rw t d.laid; answer = rw t s }
+
+put_below : (a k i : ℕ) (xs ys : List ℕ) → i < a → a ≤ length xs → slice_index (put_mid a k xs ys) i ≡ slice_index xs i
+put_below a k i xs ys less room = grind (arith, places)
+
+pub unchanged : (m : List ℕ) → SameBounds m m
+unchanged m = record { limit = refl; rest = refl }
+
+bounded : (m new : List ℕ) → slice_index new 0 ≡ slice_index m 0 → drop (words_asked (slice_index m 0)) new ≡ rest_of m → SameBounds m new
+bounded m new one two = record { limit = one; rest = rw one two }
+
+-- memory whose header says what there is
+module _ (m : List ℕ) (there : ℕ) (is_there : there ≡ slice_index m 1) where
+  pub come_done : (x : ℕ) → x ≤ most_cents → there + x ≤ most_there → Does (comes x) m (slice_set m 1 (there + x)) (Ok (there + x))
+  unfolding says Does
+  come_done x few room = (
+    λ s. served_by (comes x) m _ _ (grind (arith, nat_tests)) (rw is_there (ap (λ ws. slice_set ws 1 (slice_index m 1 + x)) s.laid ∙ comes_writes _ (estate_of m) (rest_of m) (slice_index m 1 + x))) (ap number (ap (λ t. t + x) is_there)),
+    tt,
+    bounded m _ (grind (arith, places)) (drop-set-lt _ m 1 _ (omega arith)),
+  )
+
+  pub come_full : (x : ℕ) (t : TurnedAway) → x ≤ most_cents → most_there < there + x → t ≡ record { why = NoRoom; place = 0 } → Does (comes x) m m (Err t)
+  unfolding Does
+  come_full x t few full is = (
+    refused_by (comes x) m _ (grind (arith, nat_tests)) (rw is (grind (arith, nat_tests))),
+    refl,
+    unchanged m,
+  )
+
+-- memory whose header says the limit and how many claims there are, of which so many words are the register
+module _ (m : List ℕ) (limit count k : ℕ) (is_limit : limit ≡ slice_index m 0) (is_count : count ≡ slice_index m 2) (span : k ≡ 2 * limit) (headed : Headed m) where
+  abbrev part0 : List ℕ
+  part0 = take k (drop header_words m)
+
+  part_long : length part0 ≡ k
+  part_long =
+      length-take-le k (drop header_words m) (omega (arith, length-drop header_words m, headed.words, is_limit))
+
+  part_middle : middle part0 ≡ limit
+  part_middle = let l = part_long in omega arith
+
+  count_is : length (estate_of m).claimed ≡ count
+  count_is = claims_counted m headed ∙ sym is_count
+
+  part_is : Stands m → part0 ≡ register (limits_of m) (estate_of m)
+  part_is s =
+      let b = body _ (estate_of m) (rest_of m) s.fair.few in
+      rw (span, is_limit) (ap (λ ws. take (2 * slice_index m 0) (drop header_words ws)) s.laid ∙ b)
+
+  unwritten : put_mid header_words k m part0 ≡ m
+  unwritten =
+      let one = take-append-drop k (drop header_words m) in
+      let two = take-append-drop header_words m in
+      cc
+
+  put_bounded : (part : List ℕ) → length part ≡ length part0 → SameBounds m (put_mid header_words k m part)
+  put_bounded part long =
+      let room : header_words ≤ length m = omega (arith, headed.words) in
+      bounded m _ (put_below header_words k 0 m part (omega arith) room) (drop-put_mid header_words k m part _ (omega (arith, span, is_limit)) room (long ∙ part_long))
+
+  pub claim_done : (c : ℕ) (part : List ℕ) → Grown count c part0 part → c ≤ most_cents → Does (claims c) m (slice_set (put_mid header_words k m part) 2 (count + 1)) (Ok count)
+  unfolding says Does Grown
+  claim_done c part g few =
+      let a = g.1 in
+      let n = count_is in
+      let room : count < limit = omega (arith, a.room, part_middle) in
+      let b = put_bounded part (a.inserted.carried.long ∙ length-set part0 count c) in (
+        λ s.
+            let cs = (estate_of m).claimed ++ c ∷ [] in
+            let new = register_added _ (estate_of m) s.fair.few c g.0 part (rw (part_is s, sym n) at a) in
+            let long : count + 1 ≡ length cs = omega (arith, length_push (estate_of m).claimed c) in
+            let w = claims_writes _ (estate_of m) (rest_of m) s.fair.few cs part (omega (arith, is_limit)) new in
+            let k = span in
+            let l = is_limit in
+            let d = s.laid in
+            served_by (claims c) m _ _ (grind (arith, nat_tests, is_limit)) (cc) (ap number (sym n)),
+        tt,
+        bounded m _ (grind (arith, places, b.limit)) (drop-set-lt (words_asked (slice_index m 0)) (put_mid header_words k m part) 2 _ (omega arith) ∙ rw b.limit at b.rest),
+      )
+
+  pub claim_full : (c : ℕ) (part : List ℕ) (t : TurnedAway) → middle part0 ≤ count → part ≡ part0 → c ≤ most_cents → t ≡ record { why = NoRoom; place = 0 } → Does (claims c) m (put_mid header_words k m part) (Err t)
+  unfolding Does
+  claim_full c part t room kept few is =
+      let n = count_is in
+      let same : put_mid header_words k m part ≡ m = rw kept unwritten in
+      let full : limit ≤ count = omega (arith, part_middle) in
+      rw same (
+        refused_by (claims c) m _ (grind (arith, nat_tests, is_limit)) (rw is (grind (arith, nat_tests, is_limit))),
+        refl,
+        unchanged m,
+      )
+
+  pub prove_done : (i x c : ℕ) (part : List ℕ) → Altered count i c part0 part → c ≤ most_cents → x ≡ i → Does (proves i c) m (put_mid header_words k m part) (Ok x)
+  unfolding says Does Altered
+  prove_done i x c part b few same =
+      let a = b.2 in
+      let n = count_is in
+      let there = a.there in (
+        λ s.
+            let cs = slice_set (estate_of m).claimed i c in
+            let long = length-set (estate_of m).claimed i c in
+            let new = register_changed _ (estate_of m) s.fair.few i c b.0 b.1 part (rw (part_is s, sym n) at a) in
+            let w = proves_writes _ (estate_of m) (rest_of m) s.fair.few cs part (omega (arith, s.fair.few)) new long in
+            let k = span in
+            let l = is_limit in
+            let d = s.laid in
+            served_by (proves i c) m _ _ (grind (arith, nat_tests)) (cc) (ap number same),
+        tt,
+        put_bounded part (a.replaced.carried.long ∙ length-set part0 i c),
+      )
+
+  missing : (i : ℕ) → Stands m → (why : Unfit) → Unchanged count i part0 why → count ≤ i
+  missing i s unfit.NotThere u = omega (arith, u, part_middle, headed.few, is_limit, is_count)
+  missing i s unfit.OutOfOrder u =
+      absurd (register_ordered _ (estate_of m) s.fair.few i (rw (part_is s, sym count_is) at u))
+
+  pub prove_missing : (i c : ℕ) (part : List ℕ) (t : TurnedAway) → Unaltered count i part0 part → c ≤ most_cents → t ≡ record { why = NotThere; place = 0 } → Does (proves i c) m (put_mid header_words k m part) (Err t)
+  unfolding Does Unaltered
+  prove_missing i c part t b few is =
+      let n = count_is in
+      let same : put_mid header_words k m part ≡ m = rw b.2 unwritten in
+      rw same (
+        λ s. let none = missing i s b.0 b.1 in refused_by (proves i c) m _ (grind (arith, nat_tests)) (rw is (grind (arith, nat_tests))) s,
+        refl,
+        unchanged m,
+      )
+
+pub ruleset come = (come_done, come_full)
+
+pub ruleset claim = (claim_done, claim_full)
+
+pub ruleset prove = (prove_done, prove_missing)

@@ -1,0 +1,5 @@
+pub mod Words
+pub mod Keeping
+pub mod Dividing
+pub mod Answering
+pub mod Checking

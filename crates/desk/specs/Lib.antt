@@ -1,0 +1,4 @@
+pub mod Memory
+pub mod Opening
+pub mod Headers
+pub mod Calling

@@ -1,0 +1,118 @@
+// A call on a desk, read, checked, done and answered.
+ghost use Rattle.std.specs.Prelude.{◌≡◌, ◌≤◌, length, IfSome, IfNone};
+ghost use Rattle.estate.specs.Calls.{cents};
+ghost use Rattle.estate.specs.Refusals.{checks_alone, first_refusal, place};
+ghost use Rattle.wire.specs.Answers.{answer_row, Sendable};
+ghost use Rattle.wire.specs.Meaning.{heard, meaning, told};
+ghost use Rattle.wire.specs.Reading.{read};
+ghost use Rattle.wire.specs.Written.{Stands};
+ghost use Rattle.desk.specs.Calling.{Called};
+ghost use Rattle.desk.specs.Headers.{Reads};
+ghost use Rattle.desk.specs.Memory.{Lent};
+
+use crate::header::Header;
+use cents::Cents;
+use estate::cents_allowed;
+use shares::Shares;
+use wire::{Answer, Call, Garbled, Numbers, Place, Refusal, TurnedAway};
+
+// Does what the call in these bytes asks for, and writes its answer at the start of the bytes that are lent for it; how long
+// that is. A call that is turned away is answered by nothing else, and changes nothing.
+#[tactic(auto, using(crate::proofs::Checking::heard))]
+pub fn call(mem: &mut [u64], bytes: &[u8], out: &mut [u8]) -> Result<usize, TurnedAway>
+    ensures { Called (read bytes.now) mem.old mem.new out.old out.new result }
+{
+    answer(mem, Call::decode(bytes), out)
+}
+
+// The same for what was read.
+#[tactic(auto, using(crate::proofs::Checking::checks))]
+fn answer(
+    mem: &mut [u64],
+    asked: Result<Call, Garbled>,
+    out: &mut [u8],
+) -> Result<usize, TurnedAway>
+    ensures { Called (heard asked) mem.old mem.new out.old out.new result }
+{
+    let call = asked?;
+    let Some(call) = moderate(call) else {
+        return Err(TurnedAway {
+            why: Refusal::TooLarge,
+            place: cents_place(call),
+        });
+    };
+    let Some(header) = Header::of(mem, out) else {
+        return Err(TurnedAway {
+            why: Refusal::NotLent,
+            place: 1,
+        });
+    };
+    header.serve(mem, call, out)
+}
+
+// The call, if the cents in it are not too many.
+fn moderate(call: Call) -> Option<Call>
+    ensures some { IfSome result (λ c. (c ≡ call) × (first_refusal (checks_alone (meaning call)) ≡ 0)) }
+    ensures none { IfNone result (first_refusal (checks_alone (meaning call)) ≡ 2) }
+{
+    let cents = match call {
+        Call::Claim(cents) | Call::Prove(_, cents) | Call::Come(cents) => cents,
+        Call::Shares | Call::Cents => 0,
+    };
+    cents_allowed(cents).then_some(call)
+}
+
+// The place of the cents among the numbers of a call.
+fn cents_place(call: Call) -> Place
+    ensures { result ≡ place (meaning call) 2 }
+{
+    match call {
+        Call::Prove(..) => 1,
+        Call::Claim(_) | Call::Come(_) | Call::Shares | Call::Cents => 0,
+    }
+}
+
+impl Header {
+    // Does what is asked for, and writes the answer.
+    #[tactic(auto, using(crate::proofs::Answering::answers))]
+    fn serve(self, mem: &mut [u64], call: Call, out: &mut [u8]) -> Result<usize, TurnedAway>
+        requires reads { Reads self mem.old }
+        requires lent { Lent mem.old out.old }
+        requires moderate { first_refusal (checks_alone (meaning call)) ≡ 0 }
+        ensures { Called (meaning call) mem.old mem.new out.old out.new result }
+    {
+        let number = match call {
+            Call::Claim(cents) => self.claim(mem, cents)?,
+            Call::Prove(place, cents) => self.prove(mem, place, cents)?,
+            Call::Come(cents) => self.come(mem, cents)?,
+            Call::Shares => return Ok(send(&self.division(mem).answer(), out)),
+            Call::Cents => return self.cents(mem, out),
+        };
+        Ok(send(&Answer::<Shares>::Number(number), out))
+    }
+
+    // Writes the whole cents of all.
+    #[tactic(auto, using(crate::proofs::Answering::cents_answers))]
+    fn cents(self, mem: &[u64], out: &mut [u8]) -> Result<usize, TurnedAway>
+        requires reads { Reads self mem.now }
+        requires lent { Lent mem.now out.old }
+        ensures { Called cents mem.now mem.now out.old out.new result }
+    {
+        let Ok(cents) = Cents::of(self.division(mem)) else {
+            return Err(TurnedAway {
+                why: Refusal::NotLent,
+                place: 1,
+            });
+        };
+        Ok(send(&cents.answer(), out))
+    }
+}
+
+// Writes an answer for which there is room, and says how long it is.
+fn send<L: Numbers>(answer: &Answer<L>, out: &mut [u8]) -> usize
+    requires { length (answer_row (told L.items answer.now)) ≤ length out.old }
+    ensures written { Stands (answer_row (told L.items answer.now)) out.old out.new result }
+    ensures sendable { Sendable (told L.items answer.now) }
+{
+    answer.encode(out).unwrap()
+}

@@ -1,0 +1,83 @@
+// The calls that change a desk.
+ghost use Rattle.std.specs.Prelude.{◌≡◌, ◌≤◌, IfSome, IfNone};
+ghost use Rattle.estate.specs.Calls.{claims, proves, comes};
+ghost use Rattle.estate.specs.Limits.{most_cents};
+ghost use Rattle.register.specs.Rows.{middle};
+ghost use Rattle.desk.specs.Calling.{Does};
+ghost use Rattle.desk.specs.Headers.{Reads, Grown, Altered, Unaltered};
+
+use crate::header::Header;
+use crate::opening::HEADER;
+use estate::MOST_THERE;
+use register::{Moved, Register};
+use wire::{Place, Refusal, TurnedAway};
+
+impl Header {
+    // Adds a claim, last, and answers how many there were.
+    #[tactic(auto, using(crate::proofs::Keeping::claim))]
+    pub(crate) fn claim(self, mem: &mut [u64], cents: u64) -> Result<u64, TurnedAway>
+        requires reads { Reads self mem.old }
+        requires moderate { cents ≤ most_cents }
+        ensures { Does (claims cents) mem.old mem.new result }
+    {
+        let end = HEADER + 2 * self.limit;
+        let Some(_) = add(&mut mem[HEADER..end], self.count, cents) else {
+            return Err(turned_away(Refusal::NoRoom));
+        };
+        let count = self.count as u64;
+        mem[2] = count + 1;
+        Ok(count)
+    }
+
+    // Changes a claim, and answers its place.
+    #[tactic(auto, using(crate::proofs::Keeping::prove))]
+    pub(crate) fn prove(self, mem: &mut [u64], place: Place, cents: u64) -> Result<u64, TurnedAway>
+        requires reads { Reads self mem.old }
+        requires moderate { cents ≤ most_cents }
+        ensures { Does (proves place cents) mem.old mem.new result }
+    {
+        let end = HEADER + 2 * self.limit;
+        let Some(_) = change(&mut mem[HEADER..end], self.count, place as usize, cents) else {
+            return Err(turned_away(Refusal::NotThere));
+        };
+        Ok(u64::from(place))
+    }
+
+    // Adds to what is there, and answers how much it is.
+    #[tactic(auto, using(crate::proofs::Keeping::come))]
+    pub(crate) fn come(self, mem: &mut [u64], cents: u64) -> Result<u64, TurnedAway>
+        requires reads { Reads self mem.old }
+        requires moderate { cents ≤ most_cents }
+        ensures { Does (comes cents) mem.old mem.new result }
+    {
+        let Some(there) = Some(self.there + cents).filter(|&there| there <= MOST_THERE) else {
+            return Err(turned_away(Refusal::NoRoom));
+        };
+        mem[1] = there;
+        Ok(there)
+    }
+}
+
+// Adds a claim to a register of so many.
+#[tactic(auto, unfolding(crate::specs::Headers::Grown))]
+fn add(rows: &mut [u64], count: usize, cents: u64) -> Option<usize>
+    ensures some { IfSome result (λ _. Grown count cents rows.old rows.new) }
+    ensures none { IfNone result ((middle rows.old ≤ count) × (rows.new ≡ rows.old)) }
+{
+    Register::new(rows, count).add(cents)
+}
+
+// Changes a claim of a register of so many.
+#[tactic(auto, unfolding(crate::specs::Headers::Altered, crate::specs::Headers::Unaltered))]
+fn change(rows: &mut [u64], count: usize, i: usize, cents: u64) -> Option<Moved>
+    ensures some { IfSome result (λ _. Altered count i cents rows.old rows.new) }
+    ensures none { IfNone result (Unaltered count i rows.old rows.new) }
+{
+    Register::new(rows, count).change(i, cents).ok()
+}
+
+fn turned_away(why: Refusal) -> TurnedAway
+    ensures { result ≡ record { why = why; place = 0 } }
+{
+    TurnedAway { why, place: 0 }
+}

@@ -1,0 +1,39 @@
+// The header of a desk.
+ghost use Rattle.std.specs.Prelude.{◌≡◌, IfSome, IfNone};
+ghost use Rattle.desk.specs.Headers.{Reads};
+ghost use Rattle.desk.specs.Memory.{Lent};
+
+use crate::opening::asked;
+use estate::MOST_THERE;
+
+// What it says.
+#[derive(Clone, Copy, Debug)]
+pub(crate) struct Header {
+    pub(crate) limit: usize,
+    pub(crate) there: u64,
+    pub(crate) count: usize,
+}
+
+impl Header {
+    // What is read of it, if its numbers may be a desk's and as much is lent as that asks for.
+    pub(crate) fn of(mem: &[u64], out: &[u8]) -> Option<Header>
+        ensures some { IfSome result (λ h. Reads h mem.now × Lent mem.now out.now) }
+        ensures none { IfNone result (Lent mem.now out.now → ⊥) }
+    {
+        let [limit, there, count, ..] = *mem else {
+            return None;
+        };
+        let limit = limit as usize;
+        let count = count as usize;
+        let loan = asked(limit).ok()?;
+        let fits = there <= MOST_THERE
+            && count <= limit
+            && loan.words <= mem.len()
+            && loan.bytes <= out.len();
+        fits.then_some(Header {
+            limit,
+            there,
+            count,
+        })
+    }
+}
