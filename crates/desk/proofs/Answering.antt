@@ -31,7 +31,7 @@ module _ (m out : List ℕ) (lent : Lent m out) where
 
   pub number_done : (c : Call) (new sent : List ℕ) (n k : ℕ) → Does c m new (Ok n) → Written (answer_row (number n)) out sent k → Sendable (number n) → Called c m new out sent (Ok k)
   unfolding Does Called
-  number_done c new sent n k d w f = (number n, (w, f), λ s l. d.0 s, λ un. absurd (un lent), tt, d.2)
+  number_done c new sent n k d w f = (number n, (w, f, refl), λ s l. d.0 s, λ un. absurd (un lent), tt, d.2)
 
   pub number_refused : (c : Call) (new : List ℕ) (t : TurnedAway) → Does c m new (Err t) → Called c m new out out (Err t)
   unfolding Does Called
@@ -54,7 +54,7 @@ module _ (m out : List ℕ) (lent : Lent m out) where
     unfolding Parted Called
     shares_done a sent k is w v = (
       a,
-      (w, v),
+      (w, v, rw is refl),
       λ d l.
           let f = terms_for d in
           record { memory = d.laid; answer = is ∙ rw parted.1 (shares_divide (estate_of m) f.0 s.terms f.1).said },
@@ -81,7 +81,7 @@ module _ (m out : List ℕ) (lent : Lent m out) where
       unfolding Called
       cents_done k a sent n done is w v = (
         a,
-        (w, v),
+        (w, v, rw is refl),
         λ d l. record { memory = d.laid; answer = is ∙ (rw done at (paid d)).said },
         λ un. absurd (un lent),
         tt,

@@ -1,6 +1,6 @@
 -- The words of a desk: what is read of them, and what each call writes. All that opens the layout stands here. Assumes
 -- nothing.
-use Rattle.std.proofs.Common.{◌≡◌, ℕ, ◌+◌, ◌*◌, ◌≤◌, List, [], ◌∷◌, ◌++◌, length, take, drop, replicate, slice_set, sym, refl, ◌∙◌, arith, append_assoc, slice_index, drop-drop}
+use Rattle.std.proofs.Common.{◌≡◌, ℕ, ◌+◌, ◌*◌, ◌≤◌, List, [], ◌∷◌, ◌++◌, length, take, drop, replicate, slice_set, sym, refl, ◌∙◌, arith, append_assoc, length-append, slice_index, drop-drop}
 use borrow.Rule.Slice.PartMut.{put_mid}
 use Rattle.std.proofs.lemmas.List.{places, take-append-drop, replicate-append-replicate, length-replicate, drop_at, length-take-le, length-drop}
 use Rattle.std.proofs.lemmas.Grind.{common_steps}
@@ -106,7 +106,7 @@ module _ (n : ℕ) (e : Estate) (rest : List ℕ) (few : length e.claimed ≤ n)
   unfolding layout header
   there_read = refl
 
-  count_read : slice_index (layout (limited n) e ++ rest) 2 ≡ length e.claimed
+  pub count_read : slice_index (layout (limited n) e ++ rest) 2 ≡ length e.claimed
   unfolding layout header
   count_read = refl
 
@@ -118,6 +118,11 @@ module _ (n : ℕ) (e : Estate) (rest : List ℕ) (few : length e.claimed ≤ n)
 
   pub rest_read : rest_of (layout (limited n) e ++ rest) ≡ rest
   rest_read = rw limit_read (behind n e rest few)
+
+  pub long_enough : words_asked n ≤ length (layout (limited n) e ++ rest)
+  unfolding layout
+  long_enough =
+      omega (arith, length-append {A = ℕ}, length-header n e rest few, length-register n e rest few)
 
   pub order_read : take (length e.claimed) (drop (header_words + n) (layout (limited n) e ++ rest)) ≡ sorted e.claimed
   order_read =

@@ -1,6 +1,6 @@
 -- What a call does to a desk, and how it is answered. Assumes nothing.
-use Rattle.std.specs.Prelude.{◌≡◌, ℕ, List, ◌++◌, if◌then◌else◌, ◌==◌, Ok, Err, Result, IfErr, slice_index}
-use Rattle.estate.specs.Answers.{Answer, number, refused}
+use Rattle.std.specs.Prelude.{◌≡◌, ℕ, Bool, true, false, List, ◌++◌, if◌then◌else◌, ◌==◌, Ok, Err, Result, IfErr, slice_index}
+use Rattle.estate.specs.Answers.{Answer, refused, number, parts, amounts}
 use Rattle.estate.specs.Calls.{Call}
 use Rattle.estate.specs.Changes.{after}
 use Rattle.estate.specs.Refusals.{not_lent, checks_alone, first_refusal, place}
@@ -11,10 +11,16 @@ use Rattle.wire.specs.declared.refusals.TurnedAway.{TurnedAway}
 use Rattle.desk.specs.Memory.{layout, limits_of, estate_of, rest_of, Stands, Lent}
 use Rattle.desk.specs.Opening.{refusal}
 
--- The answer a is given in lent bytes: its row stands first, can be read back, and its length is told; or it is a refusal,
--- which is told, and nothing is written.
+abbrev pub is_refused : Answer → Bool
+is_refused (refused n p) = true
+is_refused (number n) = false
+is_refused (parts d xs) = false
+is_refused (amounts xs) = false
+
+-- The answer a is given: it is written at the start of lent bytes, can be read back, and its length is told; or it is a
+-- refusal, which is told, and nothing is written.
 abbrev pub Given : Answer → List ℕ → List ℕ → Result ℕ TurnedAway → Type 0
-Given a out new (Ok n) = Written (answer_row a) out new n × Sendable a
+Given a out new (Ok n) = Written (answer_row a) out new n × Sendable a × (is_refused a ≡ false)
 Given a out new (Err t) = (a ≡ refusal t) × (new ≡ out)
 
 -- what is left of a call that was answered by a number, or turned away

@@ -9,6 +9,7 @@ ghost use Rattle.wire.specs.Written.{Stands};
 ghost use Rattle.desk.specs.Calling.{Called};
 ghost use Rattle.desk.specs.Headers.{Reads};
 ghost use Rattle.desk.specs.Memory.{Lent};
+ghost use Rattle.desk.specs.Promises.{DesksRight, RefusalsKeep, DescribedObeys};
 
 use crate::header::Header;
 use cents::Cents;
@@ -18,9 +19,12 @@ use wire::{Answer, Call, Garbled, Numbers, Place, Refusal, TurnedAway};
 
 // Does what the call in these bytes asks for, and writes its answer at the start of the bytes that are lent for it; how long
 // that is. A call that is turned away is answered by nothing else, and changes nothing.
-#[tactic(auto, using(crate::proofs::Checking::heard))]
+#[tactic(auto, using(crate::proofs::Checking::heard, crate::proofs::Promised::desks_right, crate::proofs::Promised::refusals_keep, crate::proofs::Described::described_obeys))]
 pub fn call(mem: &mut [u64], bytes: &[u8], out: &mut [u8]) -> Result<usize, TurnedAway>
-    ensures { Called (read bytes.now) mem.old mem.new out.old out.new result }
+    ensures called { Called (read bytes.now) mem.old mem.new out.old out.new result }
+    ensures desks_right { DesksRight }
+    ensures refusals_keep { RefusalsKeep }
+    ensures described_obeys { DescribedObeys }
 {
     answer(mem, Call::decode(bytes), out)
 }

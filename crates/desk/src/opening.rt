@@ -1,6 +1,7 @@
 // How much a desk asks for, and a desk opened in lent memory.
-ghost use Rattle.std.specs.Prelude.{◌≡◌, length, replicate};
+ghost use Rattle.std.specs.Prelude.{◌≡◌, ◌+◌, ◌*◌, ◌≤◌, length, replicate, IfOk};
 ghost use Rattle.desk.specs.Opening.{IsAsked, Opened};
+ghost use Rattle.desk.specs.Promises.{OneEstate};
 
 use estate::MOST_CREDITORS;
 use wire::{Refusal, TurnedAway};
@@ -19,7 +20,8 @@ pub struct Loan {
 
 // How much a desk for so many creditors asks for.
 pub fn asked(limit: usize) -> Result<Loan, TurnedAway>
-    ensures { IsAsked limit result }
+    ensures asked { IsAsked limit result }
+    ensures few { IfOk result (λ a. 8 * a.words ≤ 64 * limit + 4096) }
 {
     if limit > MOST_CREDITORS {
         return Err(TurnedAway {
@@ -34,9 +36,10 @@ pub fn asked(limit: usize) -> Result<Loan, TurnedAway>
 }
 
 // Opens a desk for so many creditors in lent memory, whatever that held.
-#[tactic(auto, using(crate::proofs::Words::opened))]
+#[tactic(auto, using(crate::proofs::Words::opened, crate::proofs::Promised::one_estate))]
 pub fn open(mem: &mut [u64], limit: usize) -> Result<(), TurnedAway>
-    ensures { Opened limit mem.old mem.new result }
+    ensures opened { Opened limit mem.old mem.new result }
+    ensures one_estate { OneEstate }
 {
     let asked = asked(limit)?;
     if mem.len() < asked.words {

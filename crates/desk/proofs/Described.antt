@@ -1,0 +1,132 @@
+-- The desk that the definitions describe does as the contracts say: its answers can be given. Assumes nothing.
+use Rattle.std.proofs.Common.{◌≡◌, ℕ, zero, suc, ◌+◌, ◌*◌, ◌^◌, ◌<◌, ◌≤◌, Bool, true, false, ◌==◌, List, [], ◌∷◌, ◌++◌, length, drop, replicate, Ok, Err, Result, refl, sym, ap, ◌∙◌, subst, arith, mul-le-mul}
+use Rattle.std.proofs.lemmas.Bool.{false≢true}
+use Rattle.std.proofs.lemmas.Bool.Decides.{nat_tests}
+use Rattle.std.proofs.Math.ListN.{drop_of_length-le}
+use Rattle.std.proofs.lemmas.List.{places, length-replicate, append-nil}
+use Rattle.std.specs.Prelude.{if◌then◌else◌, All, IfErr, slice_index}
+use Rattle.estate.specs.Answers.{Answer, refused, number, parts, amounts}
+use Rattle.estate.specs.Calls.{Call, claims, proves, comes, shares, cents, garbled}
+use Rattle.estate.specs.Changes.{after}
+use Rattle.estate.specs.Closed.{denominator, division}
+use Rattle.estate.specs.Division.{Agrees}
+use Rattle.estate.specs.Estates.{Estate, new_estate, amount, counted, divided}
+use Rattle.estate.specs.Limits.{Limits, most_cents, most_there}
+use Rattle.estate.specs.Refusals.{check, first_refusal, turned, place}
+use Rattle.estate.specs.Right.{says, answered}
+use Rattle.estate.proofs.ClosedForm.{closed_divides}
+use Rattle.estate.proofs.Facts.{facts}
+use Rattle.estate.proofs.WholeCents.{cents_add_up}
+use Rattle.wire.specs.Answers.{answer_row, Sendable}
+use Rattle.wire.specs.Bytes.{Fitting}
+use Rattle.wire.specs.Meaning.{refusal_number}
+use Rattle.wire.specs.declared.refusals.Refusal.{Refusal}
+use Rattle.wire.specs.declared.refusals.Refusal.TheVariants.{Unreadable, TooLarge, NotThere, NoRoom}
+use Rattle.wire.specs.declared.refusals.TurnedAway.{TurnedAway}
+use Rattle.wire.proofs.Bytes.{length-row}
+use Rattle.desk.specs.Memory.{words_asked, bytes_asked, limits_of, estate_of, rest_of, layout, Fair, Stands, Lent}
+use Rattle.desk.specs.Calling.{is_refused, Given, Called}
+use Rattle.desk.specs.Opening.{refusal}
+use Rattle.desk.specs.Promises.{DescribedObeys}
+use Rattle.desk.proofs.Words.{limits_read, rest_read}
+use Rattle.desk.proofs.Promised.{fair_after}
+
+-- what turns a call away has a name
+two_checks : (a b : Bool) (v w : Refusal) → (first_refusal (check a (refusal_number v) ∷ check b (refusal_number w) ∷ []) == 0) ≡ false → (why : Refusal) × (refusal_number why ≡ first_refusal (check a (refusal_number v) ∷ check b (refusal_number w) ∷ []))
+two_checks false b v w h = (v, refl)
+two_checks true false v w h = (w, refl)
+two_checks true true v w h = absurd (false≢true (sym h))
+
+named : (l : Limits) (e : Estate) (c : Call) → (turned l e c == 0) ≡ false → (why : Refusal) × (refusal_number why ≡ turned l e c)
+named l e (claims c) h = two_checks _ _ TooLarge NoRoom h
+named l e (proves i c) h = two_checks _ _ TooLarge NotThere h
+named l e (comes x) h = two_checks _ _ TooLarge NoRoom h
+named l e shares h = absurd (false≢true (sym h))
+named l e cents h = absurd (false≢true (sym h))
+named l e (garbled n) h = (Unreadable, refl)
+
+-- an answer that can be sent for so many claims
+pub record Fits (n : ℕ) (a : Answer) : Type 0 where
+  pub sendable : Sendable a
+  pub room : length (answer_row a) ≤ bytes_asked n
+  pub answers : is_refused a ≡ false
+
+fitting_more : (n : ℕ) (ns : List ℕ) → n < 2 ^ 64 → Fitting ns → Fitting (n ∷ ns)
+fitting_more n ns less rest zero = less
+fitting_more n ns less rest (suc i) = rest i
+
+number_fits : (l n : ℕ) → n < 2 ^ 64 → Fits l (number n)
+number_fits l n less = record {
+  sendable = record { listed = tt; fitting = fitting_more n [] less (λ i. omega arith) };
+  room = omega (arith, length-row);
+  answers = refl;
+}
+
+module _ (l : Limits) (e : Estate) (f : Fair l e) where
+  abbrev d : ℕ
+  d = denominator (divided e) (counted e)
+
+  abbrev xs : List ℕ
+  xs = division (divided e) (counted e)
+
+  few : d ≤ 2048
+  few =
+      omega (arith, (closed_divides (divided e) (counted e) (omega arith)).0, f.within.few)
+
+  divides : Agrees d (divided e) (counted e) xs
+  divides = facts _ _ _ _ (closed_divides (divided e) (counted e) (omega arith)).1
+
+  claim_few : (i : ℕ) → slice_index (counted e) i ≤ most_cents
+  claim_few i = let inside = f.within.each i 0 in grind (arith, places)
+
+  share_few : Fitting xs
+  share_few i =
+      omega (arith, divides.below i, mul-le-mul few (claim_few i))
+
+  says_fits : (c : Call) → (turned l e c == 0) ≡ true → Fits l.creditors (says e c)
+  unfolding says
+  says_fits (claims c) t = number_fits _ _ (omega (arith, f.few, f.limit))
+  says_fits (proves i c) t = let there : i < length (counted e) = grind (arith, nat_tests) in number_fits _ _ (omega (arith, f.few, f.limit))
+  says_fits (comes x) t = let few : amount e + x ≤ most_there = grind (arith, nat_tests) in number_fits _ _ (omega arith)
+  says_fits shares t = record {
+    sendable = record { listed = tt; fitting = fitting_more d (length xs ∷ xs) (omega (arith, few)) (fitting_more (length xs) xs (omega (arith, divides.paired, f.within.few)) share_few) };
+    room = omega (arith, length-row, divides.paired, f.few);
+    answers = refl;
+  }
+  says_fits cents t =
+      let p = cents_add_up d (divided e) (counted e) xs (closed_divides (divided e) (counted e) (omega arith)).1 in
+      record {
+        sendable = record { listed = tt; fitting = fitting_more _ _ (omega (arith, p.paired, f.within.few)) (λ i. omega (arith, p.below i, claim_few i)) };
+        room = omega (arith, length-row, p.paired, f.few);
+        answers = refl;
+      }
+  says_fits (garbled n) t = absurd (false≢true t)
+
+  given : (c : Call) (out : List ℕ) (b : Bool) → (turned l e c == 0) ≡ b → bytes_asked l.creditors ≤ length out → (sent : List ℕ) × (r : Result ℕ TurnedAway) × Given (if b then says e c else refused (turned l e c) (place c (turned l e c))) out sent r × IfErr r (λ _. (turned l e c == 0) ≡ false)
+  given c out true t room =
+      let row : List ℕ = answer_row (says e c) in
+      let v = says_fits c t in
+      (row ++ drop (length row) out, Ok (length row), (record { long = refl; room = omega (arith, v.room); holds = refl }, v.sendable, v.answers), tt)
+  given c out false t room =
+      let (why, is) = named l e c t in
+      (out, Err (record { why = why; place = place c (turned l e c) }), (rw is refl, refl), t)
+
+in_err : (r : Result ℕ TurnedAway) (P Q : Type 0) → IfErr r (λ _. P) → (P → Q) → IfErr r (λ _. Q)
+in_err (Ok n) P Q h g = tt
+in_err (Err t) P Q h g = g h
+
+pub described_obeys : DescribedObeys
+unfolding Called
+described_obeys = record {
+  opens = λ l few.
+      let zeros : List ℕ = replicate (words_asked l.creditors) 0 in
+      let long : length zeros ≡ words_asked l.creditors = length-replicate {A = ℕ} (words_asked l.creditors) 0 in
+      let none = drop_of_length-le zeros (omega (arith, long)) in
+      (zeros, (few, omega (arith, long), sym (append-nil (layout l new_estate)) ∙ ap (λ ws. layout l new_estate ++ ws) (sym none)));
+  calls = λ m c out s lent.
+      let l = limits_of m.words in
+      let e = estate_of m.words in
+      let (sent, r, g, away) = given l e s.fair c out _ refl lent.bytes in
+      let few = (fair_after l e c s.fair).few in
+      (sent, r, (answered l e c, g, λ _ _. record { memory = refl; answer = refl }, λ un. absurd (un lent), in_err r _ _ away (λ t. rw t (sym s.laid)), record { limit = ap (λ k. k.creditors) (limits_read l.creditors (after l e c) (rest_of m.words) few); rest = rest_read l.creditors (after l e c) (rest_of m.words) few }), g);
+}

@@ -1,0 +1,44 @@
+-- What is promised of a desk, said of every desk that does as the contracts of `open` and `call` say. Each is named by one of
+-- these contracts. Assumes nothing.
+use Rattle.std.specs.Prelude.{◌≡◌, ℕ, ◌≤◌, List, ◌++◌, Ok, Result}
+use Rattle.estate.specs.Calls.{Call}
+use Rattle.estate.specs.Changes.{after}
+use Rattle.estate.specs.Desks.{Memory, Desk, Right, RefusalKeeps}
+use Rattle.estate.specs.Estates.{Estate, new_estate}
+use Rattle.estate.specs.Limits.{Limits, most_creditors}
+use Rattle.estate.specs.Right.{answered}
+use Rattle.wire.specs.declared.refusals.TurnedAway.{TurnedAway}
+use Rattle.desk.specs.Memory.{layout, limits_of, estate_of, rest_of, Fair, Stands, Lent}
+use Rattle.desk.specs.Opening.{Opened}
+use Rattle.desk.specs.Calling.{Given, Called}
+
+-- It leaves and answers what these contracts allow: when it is opened in some memory, and with each call, whatever bytes are
+-- lent for the answer, if these are enough.
+pub record Obeys (k : Desk) : Type 0 where
+  pub opens : (l : Limits) → l.creditors ≤ most_creditors → (m : List ℕ) × Opened l.creditors m (k.opened l).words (Ok tt)
+  pub calls : (m : Memory) (c : Call) (out : List ℕ) → Stands m.words → Lent m.words out → (sent : List ℕ) × (r : Result ℕ TurnedAway) × Called c m.words (k.next m c).words out sent r × Given (k.says m c) out sent r
+
+-- the main promise: each answer is right, whatever calls came before
+abbrev pub DesksRight : Type 0
+DesksRight = (k : Desk) → Obeys k → Right k
+
+-- a call that is turned away changes nothing
+abbrev pub RefusalsKeep : Type 0
+RefusalsKeep = (k : Desk) → Obeys k → RefusalKeeps k
+
+-- the desk that the definitions describe
+abbrev pub described : Desk
+described = record {
+  opened = λ l. record { words = layout l new_estate };
+  next = λ m c. record { words = layout (limits_of m.words) (after (limits_of m.words) (estate_of m.words) c) ++ rest_of m.words };
+  says = λ m c. answered (limits_of m.words) (estate_of m.words) c;
+}
+
+-- is one that does as the contracts say
+abbrev pub DescribedObeys : Type 0
+DescribedObeys = Obeys described
+
+-- in the same memory stands one estate, with the same limits and the same words behind it
+abbrev pub OneEstate : Type 0
+OneEstate =
+    (l k : Limits) (e f : Estate) (rest more : List ℕ) → Fair l e → Fair k f → layout l e ++ rest ≡ layout k f ++ more → (l ≡ k) × (e ≡ f) × (rest ≡ more)
