@@ -1,3 +1,0 @@
-pub mod Kept
-pub mod Lists
-pub mod Ledger
