@@ -7,7 +7,7 @@ use Rattle.estate.specs.Answers.{refused}
 use Rattle.estate.specs.Estates.{Estate, counted}
 use Rattle.estate.specs.Limits.{Limits}
 use Rattle.estate.specs.Calls.{Call, claims, proves, comes, shares, cents, garbled}
-use Rattle.estate.specs.Refusals.{not_lent, checks_alone, first_refusal, turned, place}
+use Rattle.estate.specs.Refusals.{checks_alone, first_refusal, turned, place}
 use Rattle.wire.specs.Calls.{narrow}
 use Rattle.wire.specs.Reading.{read, Heard}
 use Rattle.wire.specs.declared.refusals.TurnedAway.{TurnedAway}
@@ -63,13 +63,14 @@ turned_away c m out t f is = (
   unchanged m,
 )
 
-module _ (c : Call) (m out : List ℕ) where
-  pub too_large : (p : ℕ) → first_refusal (checks_alone c) ≡ 2 → p ≡ place c 2 → Called c m m out out (Err (record { why = TooLarge; place = p }))
-  too_large p f is = turned_away c m out (record { why = TooLarge; place = p }) (rw f refl) (rw (f, is) refl)
+module _ (c : Call) (m out : List ℕ) (t : TurnedAway) where
+  pub too_large : (p : ℕ) → t ≡ record { why = TooLarge; place = p } → first_refusal (checks_alone c) ≡ 2 → p ≡ place c 2 → Called c m m out out (Err t)
+  too_large p is f at = turned_away c m out t (rw f refl) (rw (is, f, at) refl)
 
-  pub too_little : first_refusal (checks_alone c) ≡ 0 → (Lent m out → ⊥) → Called c m m out out (Err (record { why = NotLent; place = 1 }))
+  pub too_little : t ≡ record { why = NotLent; place = 1 } → first_refusal (checks_alone c) ≡ 0 → (Lent m out → ⊥) → Called c m m out out (Err t)
   unfolding Called
-  too_little f un = (refused not_lent 1, (refl, refl), λ d l. absurd (un l), λ n. rw f refl, refl, unchanged m)
+  too_little is f un =
+      (refusal t, (refl, refl), λ d l. absurd (un l), λ n. rw (f, is) refl, refl, unchanged m)
 
 pub unread : (p : ℕ) (m out : List ℕ) (r : Result ℕ TurnedAway) → IsErrAnd r (λ t. (t.why ≡ Unreadable) × (t.place ≡ p)) → Called (garbled p) m m out out r
 unread p m out (Ok n) e = absurd e

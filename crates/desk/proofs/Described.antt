@@ -1,11 +1,11 @@
 -- The desk that the definitions describe does as the contracts say: its answers can be given. Assumes nothing.
-use Rattle.std.proofs.Common.{◌≡◌, ℕ, zero, suc, ◌+◌, ◌*◌, ◌^◌, ◌<◌, ◌≤◌, Bool, true, false, ◌==◌, List, [], ◌∷◌, ◌++◌, length, drop, replicate, Ok, Err, Result, refl, sym, ap, ◌∙◌, subst, arith, mul-le-mul}
+use Rattle.std.proofs.Common.{◌≡◌, ℕ, zero, suc, ◌+◌, ◌^◌, ◌<◌, ◌≤◌, Bool, true, false, ◌==◌, List, [], ◌∷◌, ◌++◌, length, drop, replicate, Ok, Err, Result, refl, sym, ap, ◌∙◌, arith, mul-le-mul}
 use Rattle.std.proofs.lemmas.Bool.{false≢true}
 use Rattle.std.proofs.lemmas.Bool.Decides.{nat_tests}
 use Rattle.std.proofs.Math.ListN.{drop_of_length-le}
 use Rattle.std.proofs.lemmas.List.{places, length-replicate, append-nil}
-use Rattle.std.specs.Prelude.{if◌then◌else◌, All, IfErr, slice_index}
-use Rattle.estate.specs.Answers.{Answer, refused, number, parts, amounts}
+use Rattle.std.specs.Prelude.{if◌then◌else◌, IfErr, slice_index}
+use Rattle.estate.specs.Answers.{Answer, refused, number}
 use Rattle.estate.specs.Calls.{Call, claims, proves, comes, shares, cents, garbled}
 use Rattle.estate.specs.Changes.{after}
 use Rattle.estate.specs.Closed.{denominator, division}
@@ -24,9 +24,8 @@ use Rattle.wire.specs.declared.refusals.Refusal.{Refusal}
 use Rattle.wire.specs.declared.refusals.Refusal.TheVariants.{Unreadable, TooLarge, NotThere, NoRoom}
 use Rattle.wire.specs.declared.refusals.TurnedAway.{TurnedAway}
 use Rattle.wire.proofs.Bytes.{length-row}
-use Rattle.desk.specs.Memory.{words_asked, bytes_asked, limits_of, estate_of, rest_of, layout, Fair, Stands, Lent}
+use Rattle.desk.specs.Memory.{words_asked, bytes_asked, limits_of, estate_of, rest_of, layout, Fair}
 use Rattle.desk.specs.Calling.{is_refused, Given, Called}
-use Rattle.desk.specs.Opening.{refusal}
 use Rattle.desk.specs.Promises.{DescribedObeys}
 use Rattle.desk.proofs.Words.{limits_read, rest_read}
 use Rattle.desk.proofs.Promised.{fair_after}

@@ -1,9 +1,9 @@
 -- Desks that do as the contracts say keep the promises, and the desk of the definitions is one. Assumes nothing.
-use Rattle.std.proofs.Common.{◌≡◌, ℕ, ◌+◌, ◌*◌, ◌<◌, ◌≤◌, Bool, true, false, ◌==◌, List, [], ◌∷◌, ◌++◌, length, drop, replicate, Ok, Err, Result, refl, sym, ap, ◌∙◌, subst, arith}
+use Rattle.std.proofs.Common.{◌≡◌, ℕ, ◌<◌, ◌≤◌, Bool, true, false, ◌==◌, List, [], ◌∷◌, ◌++◌, length, drop, replicate, Ok, Err, Result, refl, sym, ap, ◌∙◌, subst, arith}
 use Rattle.std.proofs.lemmas.Bool.Decides.{nat_tests}
 use Rattle.std.proofs.lemmas.List.Elements.{All-append, All-set}
 use Rattle.std.proofs.lemmas.List.{places, take_at, length-replicate, length_push, length-set}
-use Rattle.std.specs.Prelude.{if◌then◌else◌, All, slice_index}
+use Rattle.std.specs.Prelude.{if◌then◌else◌, slice_index}
 use Rattle.estate.specs.Answers.{Answer}
 use Rattle.estate.specs.Calls.{Call, claims, proves, comes, shares, cents, garbled}
 use Rattle.estate.specs.Changes.{changed, after, ran}
@@ -14,11 +14,10 @@ use Rattle.estate.specs.Refusals.{turned}
 use Rattle.estate.specs.Right.{right, answered}
 use Rattle.estate.proofs.RightAnswers.{answered_right}
 use Rattle.wire.specs.declared.refusals.TurnedAway.{TurnedAway}
-use Rattle.wire.specs.Answers.{answer_row, Sendable}
+use Rattle.wire.specs.Answers.{answer_row}
 use Rattle.wire.proofs.AnswerRows.{one_answer}
 use Rattle.desk.specs.Memory.{layout, bytes_asked, limits_of, estate_of, rest_of, Fair, Stands, Lent}
 use Rattle.desk.specs.Calling.{Given, Served, Called}
-use Rattle.desk.specs.Opening.{refusal}
 use Rattle.desk.specs.Promises.{Obeys, DesksRight, RefusalsKeep, OneEstate}
 use Rattle.desk.proofs.Words.{count_read, long_enough, limits_read, estate_read, rest_read}
 

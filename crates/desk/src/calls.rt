@@ -1,6 +1,5 @@
 // A call on a desk, read, checked, done and answered.
 ghost use Rattle.std.specs.Prelude.{◌≡◌, ◌≤◌, length, IfSome, IfNone};
-ghost use Rattle.estate.specs.Calls.{cents};
 ghost use Rattle.estate.specs.Refusals.{checks_alone, first_refusal, place};
 ghost use Rattle.wire.specs.Answers.{answer_row, Sendable};
 ghost use Rattle.wire.specs.Meaning.{heard, meaning, told};
@@ -12,7 +11,7 @@ ghost use Rattle.desk.specs.Memory.{Lent};
 ghost use Rattle.desk.specs.Promises.{DesksRight, RefusalsKeep, DescribedObeys};
 
 use crate::header::Header;
-use cents::Cents;
+use crate::opening::refused;
 use estate::cents_allowed;
 use shares::Shares;
 use wire::{Answer, Call, Garbled, Numbers, Place, Refusal, TurnedAway};
@@ -33,23 +32,17 @@ pub fn call(mem: &mut [u64], bytes: &[u8], out: &mut [u8]) -> Result<usize, Turn
 #[tactic(auto, using(crate::proofs::Checking::checks))]
 fn answer(
     mem: &mut [u64],
-    asked: Result<Call, Garbled>,
+    decoded: Result<Call, Garbled>,
     out: &mut [u8],
 ) -> Result<usize, TurnedAway>
-    ensures { Called (heard asked) mem.old mem.new out.old out.new result }
+    ensures { Called (heard decoded) mem.old mem.new out.old out.new result }
 {
-    let call = asked?;
+    let call = decoded?;
     let Some(call) = moderate(call) else {
-        return Err(TurnedAway {
-            why: Refusal::TooLarge,
-            place: cents_place(call),
-        });
+        return Err(refused(Refusal::TooLarge, cents_place(call)));
     };
     let Some(header) = Header::of(mem, out) else {
-        return Err(TurnedAway {
-            why: Refusal::NotLent,
-            place: 1,
-        });
+        return Err(refused(Refusal::NotLent, 1));
     };
     header.serve(mem, call, out)
 }
@@ -94,26 +87,10 @@ impl Header {
         };
         Ok(send(&Answer::<Shares>::Number(number), out))
     }
-
-    // Writes the whole cents of all.
-    #[tactic(auto, using(crate::proofs::Answering::cents_answers))]
-    fn cents(self, mem: &[u64], out: &mut [u8]) -> Result<usize, TurnedAway>
-        requires reads { Reads self mem.now }
-        requires lent { Lent mem.now out.old }
-        ensures { Called cents mem.now mem.now out.old out.new result }
-    {
-        let Ok(cents) = Cents::of(self.division(mem)) else {
-            return Err(TurnedAway {
-                why: Refusal::NotLent,
-                place: 1,
-            });
-        };
-        Ok(send(&cents.answer(), out))
-    }
 }
 
 // Writes an answer for which there is room, and says how long it is.
-fn send<L: Numbers>(answer: &Answer<L>, out: &mut [u8]) -> usize
+pub(crate) fn send<L: Numbers>(answer: &Answer<L>, out: &mut [u8]) -> usize
     requires { length (answer_row (told L.items answer.now)) ≤ length out.old }
     ensures written { Stands (answer_row (told L.items answer.now)) out.old out.new result }
     ensures sendable { Sendable (told L.items answer.now) }

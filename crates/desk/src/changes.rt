@@ -7,7 +7,7 @@ ghost use Rattle.desk.specs.Calling.{Does};
 ghost use Rattle.desk.specs.Headers.{Reads, Grown, Altered, Unaltered};
 
 use crate::header::Header;
-use crate::opening::HEADER;
+use crate::opening::{HEADER, refused};
 use estate::MOST_THERE;
 use register::{Moved, Register};
 use wire::{Place, Refusal, TurnedAway};
@@ -22,7 +22,7 @@ impl Header {
     {
         let end = HEADER + 2 * self.limit;
         let Some(_) = add(&mut mem[HEADER..end], self.count, cents) else {
-            return Err(turned_away(Refusal::NoRoom));
+            return Err(refused(Refusal::NoRoom, 0));
         };
         let count = self.count as u64;
         mem[2] = count + 1;
@@ -38,7 +38,7 @@ impl Header {
     {
         let end = HEADER + 2 * self.limit;
         let Some(_) = change(&mut mem[HEADER..end], self.count, place as usize, cents) else {
-            return Err(turned_away(Refusal::NotThere));
+            return Err(refused(Refusal::NotThere, 0));
         };
         Ok(u64::from(place))
     }
@@ -51,7 +51,7 @@ impl Header {
         ensures { Does (comes cents) mem.old mem.new result }
     {
         let Some(there) = Some(self.there + cents).filter(|&there| there <= MOST_THERE) else {
-            return Err(turned_away(Refusal::NoRoom));
+            return Err(refused(Refusal::NoRoom, 0));
         };
         mem[1] = there;
         Ok(there)
@@ -74,10 +74,4 @@ fn change(rows: &mut [u64], count: usize, i: usize, cents: u64) -> Option<Moved>
     ensures none { IfNone result (Unaltered count i rows.old rows.new) }
 {
     Register::new(rows, count).change(i, cents).ok()
-}
-
-fn turned_away(why: Refusal) -> TurnedAway
-    ensures { result ≡ record { why = why; place = 0 } }
-{
-    TurnedAway { why, place: 0 }
 }

@@ -1,10 +1,16 @@
 // How what is there is divided among the claims of a desk.
+ghost use Rattle.estate.specs.Calls.{cents};
+ghost use Rattle.desk.specs.Calling.{Called};
 ghost use Rattle.desk.specs.Headers.{Parted, Reads, Termed};
+ghost use Rattle.desk.specs.Memory.{Lent};
 
+use crate::calls::send;
 use crate::header::Header;
-use crate::opening::HEADER;
+use crate::opening::{HEADER, refused};
+use cents::Cents;
 use level::{Terms, terms_of};
 use shares::Shares;
+use wire::{Refusal, TurnedAway};
 
 impl Header {
     // The claims as they came, on the terms of the division.
@@ -27,5 +33,18 @@ impl Header {
     {
         let start = HEADER + self.limit;
         terms_of(self.there, &mem[start..start + self.count]).unwrap()
+    }
+
+    // Writes the whole cents of all.
+    #[tactic(auto, using(crate::proofs::Answering::cents_answers))]
+    pub(crate) fn cents(self, mem: &[u64], out: &mut [u8]) -> Result<usize, TurnedAway>
+        requires reads { Reads self mem.now }
+        requires lent { Lent mem.now out.old }
+        ensures { Called cents mem.now mem.now out.old out.new result }
+    {
+        let Ok(cents) = Cents::of(self.division(mem)) else {
+            return Err(refused(Refusal::NotLent, 1));
+        };
+        Ok(send(&cents.answer(), out))
     }
 }

@@ -4,7 +4,7 @@ ghost use Rattle.desk.specs.Opening.{IsAsked, Opened};
 ghost use Rattle.desk.specs.Promises.{OneEstate};
 
 use estate::MOST_CREDITORS;
-use wire::{Refusal, TurnedAway};
+use wire::{Place, Refusal, TurnedAway};
 
 // The words of the header.
 pub(crate) const HEADER: usize = 64;
@@ -24,10 +24,7 @@ pub fn asked(limit: usize) -> Result<Loan, TurnedAway>
     ensures few { IfOk result (λ a. 8 * a.words ≤ 64 * limit + 4096) }
 {
     if limit > MOST_CREDITORS {
-        return Err(TurnedAway {
-            why: Refusal::NotLent,
-            place: 0,
-        });
+        return Err(refused(Refusal::NotLent, 0));
     }
     Ok(Loan {
         words: HEADER + 2 * limit,
@@ -43,10 +40,7 @@ pub fn open(mem: &mut [u64], limit: usize) -> Result<(), TurnedAway>
 {
     let asked = asked(limit)?;
     if mem.len() < asked.words {
-        return Err(TurnedAway {
-            why: Refusal::NotLent,
-            place: 1,
-        });
+        return Err(refused(Refusal::NotLent, 1));
     }
     clear(&mut mem[..asked.words]);
     mem[0] = limit as u64;
@@ -57,4 +51,11 @@ fn clear(words: &mut [u64])
     ensures { words.new ≡ replicate (length words.old) 0 }
 {
     words.fill(0);
+}
+
+// A refusal, at a place in the call.
+pub(crate) fn refused(why: Refusal, place: Place) -> TurnedAway
+    ensures { result ≡ record { why = why; place = place } }
+{
+    TurnedAway { why, place }
 }
