@@ -1,5 +1,5 @@
 -- What is answered, and what it leaves. Assumes nothing.
-use Rattle.std.proofs.Common.{◌≡◌, ℕ, ◌*◌, ◌/◌, ◌≤◌, List, length, slice_index, sum, Ok, Err, Result, refl, ap, ◌∙◌, arith}
+use Rattle.std.proofs.Common.{◌≡◌, ℕ, ◌*◌, ◌/◌, ◌≤◌, List, length, slice_index, sum, Ok, Err, Result, refl, ap, ◌∙◌, arith, false}
 use Rattle.std.proofs.lemmas.List.{length-map}
 use Rattle.std.specs.Result.{IsOkAnd}
 use Rattle.estate.specs.Answers.{Answer, number, parts, amounts}
@@ -14,24 +14,28 @@ use Rattle.cents.specs.declared.whole.CentsError.{CentsError}
 use Rattle.cents.specs.Whole.{cents_of, Comes}
 use Rattle.cents.specs.Laws.{Paid}
 use Rattle.cents.proofs.Pay.{cents_pay}
-use Rattle.wire.specs.Answers.{answer_row, Sendable}
-use Rattle.wire.specs.Written.{Stands as Written}
+use Rattle.wire.specs.Answers.{answer_row}
 use Rattle.wire.specs.declared.refusals.TurnedAway.{TurnedAway}
 use Rattle.wire.proofs.Bytes.{length-row}
 use Rattle.desk.specs.Memory.{estate_of, Stands, Lent}
 use Rattle.desk.specs.Headers.{Parted, Termed}
-use Rattle.desk.specs.Calling.{Does, Called}
+use Rattle.desk.specs.Calling.{is_refused, Sends, Served, SameBounds, Does, Called}
 use Rattle.desk.specs.Opening.{refusal}
 use Rattle.desk.proofs.Words.{claims_counted}
 use Rattle.desk.proofs.Keeping.{unchanged}
 
 module _ (m out : List ℕ) (lent : Lent m out) where
-  pub number_room : (n : ℕ) → length (answer_row (number n)) ≤ length out
-  number_room n = omega (arith, lent.bytes, length-row)
+  -- an answer that is no refusal, and for which there is room
+  answered_by : (c : Call) (new sent : List ℕ) (a : Answer) (r : Result ℕ TurnedAway) → is_refused a ≡ false → length (answer_row a) ≤ length out → (Stands m → Served c m new a) → SameBounds m new → Sends a out sent r → Called c m new out sent r
+  unfolding Sends Called
+  answered_by c new sent a (Ok n) plain room served bounds w =
+      (a, (w.0, w.1, plain), λ d l. served d, λ un. absurd (un lent), tt, bounds)
+  answered_by c new sent a (Err t) plain room served bounds w = let none : ⊥ = omega (arith, room, w) in absurd none
 
-  pub number_done : (c : Call) (new sent : List ℕ) (n k : ℕ) → Does c m new (Ok n) → Written (answer_row (number n)) out sent k → Sendable (number n) → Called c m new out sent (Ok k)
-  unfolding Does Called
-  number_done c new sent n k d w f = (number n, (w, f, refl), λ s l. d.0 s, λ un. absurd (un lent), tt, d.2)
+  pub number_done : (c : Call) (new sent : List ℕ) (n : ℕ) (r : Result ℕ TurnedAway) → Does c m new (Ok n) → Sends (number n) out sent r → Called c m new out sent r
+  unfolding Does
+  number_done c new sent n r d w =
+      answered_by c new sent (number n) r refl (omega (arith, lent.bytes, length-row)) d.0 d.2 w
 
   pub number_refused : (c : Call) (new : List ℕ) (t : TurnedAway) → Does c m new (Err t) → Called c m new out out (Err t)
   unfolding Does Called
@@ -47,29 +51,21 @@ module _ (m out : List ℕ) (lent : Lent m out) where
     unfolding Parted Termed
     terms_for d = parted.0 d
 
-    pub shares_room : (a : Answer) → a ≡ parts (parts_word s.terms) (shares_of s) → length (answer_row a) ≤ length out
-    shares_room a is = rw is (omega (arith, few, lent.bytes, length-row))
-
-    pub shares_done : (a : Answer) (sent : List ℕ) (k : ℕ) → a ≡ parts (parts_word s.terms) (shares_of s) → Written (answer_row a) out sent k → Sendable a → Called shares m m out sent (Ok k)
-    unfolding Parted Called
-    shares_done a sent k is w v = (
-      a,
-      (w, v, rw is refl),
-      λ d l.
-          let f = terms_for d in
-          record { memory = d.laid; answer = is ∙ rw parted.1 (shares_divide (estate_of m) f.0 s.terms f.1).said },
-      λ un. absurd (un lent),
-      tt,
-      unchanged m,
-    )
+    pub shares_done : (a : Answer) (sent : List ℕ) (r : Result ℕ TurnedAway) → a ≡ parts (parts_word s.terms) (shares_of s) → Sends a out sent r → Called shares m m out sent r
+    unfolding Parted
+    shares_done a sent r is w =
+        let served : Stands m → Served shares m m a = λ d.
+        let f = terms_for d in
+        record { memory = d.laid; answer = is ∙ rw parted.1 (shares_divide (estate_of m) f.0 s.terms f.1).said } in
+        answered_by shares m sent a r (rw is refl) (rw is (omega (arith, few, lent.bytes, length-row))) served (unchanged m) w
 
     module _ (r : Result (Cents Shares) CentsError) (comes : Comes shares_of (parts_word s.terms) (shares_of s) r) where
-      pub cents_room : (k : Cents Shares) (a : Answer) → r ≡ Ok k → a ≡ amounts (cents_of shares_of k) → length (answer_row a) ≤ length out
-      cents_room k a done is =
+      cents_room : (k : Cents Shares) → r ≡ Ok k → length (answer_row (amounts (cents_of shares_of k))) ≤ length out
+      cents_room k done =
           let c = rw done at comes in
           let whole : sum (shares_of s) ≡ parts_word s.terms * (sum (shares_of s) / parts_word s.terms) = omega (arith, c.0, c.2) in
           let long = (cents_rounded (parts_word s.terms) _ (shares_of s) c.0 whole).paired in
-          rw (is, c.3) (omega (arith, long, few, lent.bytes, length-row))
+          rw c.3 (omega (arith, long, few, lent.bytes, length-row))
 
       paid : (d : Stands m) → IsOkAnd r (λ c. Paid (estate_of m) s.terms (cents_of shares_of c))
       unfolding Parted
@@ -77,16 +73,10 @@ module _ (m out : List ℕ) (lent : Lent m out) where
           let f = terms_for d in
           cents_pay (estate_of m) f.0 s.terms r f.1 (rw parted.1 at comes)
 
-      pub cents_done : (k : Cents Shares) (a : Answer) (sent : List ℕ) (n : ℕ) → r ≡ Ok k → a ≡ amounts (cents_of shares_of k) → Written (answer_row a) out sent n → Sendable a → Called cents m m out sent (Ok n)
-      unfolding Called
-      cents_done k a sent n done is w v = (
-        a,
-        (w, v, rw is refl),
-        λ d l. record { memory = d.laid; answer = is ∙ (rw done at (paid d)).said },
-        λ un. absurd (un lent),
-        tt,
-        unchanged m,
-      )
+      pub cents_done : (k : Cents Shares) (a : Answer) (sent : List ℕ) (v : Result ℕ TurnedAway) → r ≡ Ok k → a ≡ amounts (cents_of shares_of k) → Sends a out sent v → Called cents m m out sent v
+      cents_done k a sent v done is w =
+          let served : Stands m → Served cents m m a = λ d. record { memory = d.laid; answer = is ∙ (rw done at (paid d)).said } in
+          answered_by cents m sent a v (rw is refl) (rw is (cents_room k done)) served (unchanged m) w
 
       pub cents_failed : (why : CentsError) (v : TurnedAway) → r ≡ Err why → Called cents m m out out (Err v)
       unfolding Called
@@ -99,6 +89,6 @@ module _ (m out : List ℕ) (lent : Lent m out) where
         unchanged m,
       )
 
-pub ruleset answers = (number_room, number_done, number_refused, shares_room, shares_done)
+pub ruleset answers = (number_done, number_refused, shares_done)
 
-pub ruleset cents_answers = (cents_room, cents_done, cents_failed)
+pub ruleset cents_answers = (cents_done, cents_failed)

@@ -1,5 +1,5 @@
 -- What a call does to a desk, and how it is answered. Assumes nothing.
-use Rattle.std.specs.Prelude.{◌≡◌, ℕ, Bool, true, false, List, ◌++◌, if◌then◌else◌, ◌==◌, Ok, Err, Result, IfErr, slice_index}
+use Rattle.std.specs.Prelude.{◌≡◌, ℕ, ◌<◌, Bool, true, false, List, ◌++◌, length, if◌then◌else◌, ◌==◌, Ok, Err, Result, IfErr, slice_index}
 use Rattle.estate.specs.Answers.{Answer, refused, number, parts, amounts}
 use Rattle.estate.specs.Calls.{Call}
 use Rattle.estate.specs.Changes.{after}
@@ -22,6 +22,11 @@ is_refused (amounts xs) = false
 abbrev pub Given : Answer → List ℕ → List ℕ → Result ℕ TurnedAway → Type 0
 Given a out new (Ok n) = Written (answer_row a) out new n × Sendable a × (is_refused a ≡ false)
 Given a out new (Err t) = (a ≡ refusal t) × (new ≡ out)
+
+-- It is written so, or there is too little room for it.
+unfoldable pub Sends : Answer → List ℕ → List ℕ → Result ℕ TurnedAway → Type 0
+Sends a out new (Ok n) = Written (answer_row a) out new n × Sendable a
+Sends a out new (Err t) = length out < length (answer_row a)
 
 -- what is left of a call that was answered by a number, or turned away
 abbrev pub outcome : Result ℕ TurnedAway → Answer

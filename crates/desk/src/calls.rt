@@ -1,11 +1,9 @@
 // A call on a desk, read, checked, done and answered.
 ghost use Rattle.std.specs.Prelude.{◌≡◌, ◌≤◌, length, IfSome, IfNone};
 ghost use Rattle.estate.specs.Refusals.{checks_alone, first_refusal, place};
-ghost use Rattle.wire.specs.Answers.{answer_row, Sendable};
 ghost use Rattle.wire.specs.Meaning.{heard, meaning, told};
 ghost use Rattle.wire.specs.Reading.{read};
-ghost use Rattle.wire.specs.Written.{Stands};
-ghost use Rattle.desk.specs.Calling.{Called};
+ghost use Rattle.desk.specs.Calling.{Called, Sends};
 ghost use Rattle.desk.specs.Headers.{Reads};
 ghost use Rattle.desk.specs.Memory.{Lent};
 ghost use Rattle.desk.specs.Promises.{DesksRight, RefusalsKeep, DescribedObeys};
@@ -82,18 +80,17 @@ impl Header {
             Call::Claim(cents) => self.claim(mem, cents)?,
             Call::Prove(place, cents) => self.prove(mem, place, cents)?,
             Call::Come(cents) => self.come(mem, cents)?,
-            Call::Shares => return Ok(send(&self.division(mem).answer(), out)),
+            Call::Shares => return send(&self.division(mem).answer(), out),
             Call::Cents => return self.cents(mem, out),
         };
-        Ok(send(&Answer::<Shares>::Number(number), out))
+        send(&Answer::<Shares>::Number(number), out)
     }
 }
 
-// Writes an answer for which there is room, and says how long it is.
-pub(crate) fn send<L: Numbers>(answer: &Answer<L>, out: &mut [u8]) -> usize
-    requires { length (answer_row (told L.items answer.now)) ≤ length out.old }
-    ensures written { Stands (answer_row (told L.items answer.now)) out.old out.new result }
-    ensures sendable { Sendable (told L.items answer.now) }
+// Writes an answer at the start of lent bytes, and says how long it is.
+#[tactic(auto, unfolding(crate::specs::Calling::Sends))]
+pub(crate) fn send<L: Numbers>(answer: &Answer<L>, out: &mut [u8]) -> Result<usize, TurnedAway>
+    ensures { Sends (told L.items answer.now) out.old out.new result }
 {
-    answer.encode(out).unwrap()
+    answer.encode(out).or(Err(refused(Refusal::NotLent, 1)))
 }

@@ -45,6 +45,6 @@ impl Header {
         let Ok(cents) = Cents::of(self.division(mem)) else {
             return Err(refused(Refusal::NotLent, 1));
         };
-        Ok(send(&cents.answer(), out))
+        send(&cents.answer(), out)
     }
 }
