@@ -18,8 +18,8 @@ use Rattle.wire.specs.Answers.{answer_row}
 use Rattle.wire.specs.declared.refusals.TurnedAway.{TurnedAway}
 use Rattle.wire.proofs.Bytes.{length-row}
 use Rattle.desk.specs.Memory.{estate_of, Stands, Lent}
-use Rattle.desk.specs.Headers.{Parted, Termed}
-use Rattle.desk.specs.Calling.{is_refused, Sends, Served, SameBounds, Does, Called}
+use Rattle.desk.specs.Steps.{Parted, Termed, Sends, Does}
+use Rattle.desk.specs.Calling.{is_refused, Served, SameBounds, Called}
 use Rattle.desk.specs.Opening.{refusal}
 use Rattle.desk.proofs.Words.{claims_counted}
 use Rattle.desk.proofs.Keeping.{unchanged}

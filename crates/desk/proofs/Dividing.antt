@@ -7,7 +7,7 @@ use Rattle.estate.proofs.SameClaims.{same_sorted}
 use Rattle.level.specs.Terms.{Found}
 use Rattle.level.specs.declared.closed.Terms.{Terms}
 use Rattle.desk.specs.Memory.{header_words, estate_of, rest_of, Headed, Stands}
-use Rattle.desk.specs.Headers.{Termed}
+use Rattle.desk.specs.Steps.{Termed}
 use Rattle.desk.proofs.Words.{order_read, claims_counted}
 
 in_order : (m : List ℕ) (limit count : ℕ) → Headed m → limit ≡ slice_index m 0 → count ≡ slice_index m 2 → Stands m → take count (drop (header_words + limit) m) ≡ sorted (estate_of m).claimed

@@ -16,8 +16,8 @@ use Rattle.register.specs.declared.rows.Unfit.TheVariants as unfit
 use Rattle.wire.specs.declared.refusals.TurnedAway.{TurnedAway}
 use Rattle.wire.specs.declared.refusals.Refusal.TheVariants.{NoRoom, NotThere}
 use Rattle.desk.specs.Memory.{header_words, register, words_asked, layout, limits_of, estate_of, rest_of, Headed, Stands}
-use Rattle.desk.specs.Headers.{Grown, Altered, Unaltered}
-use Rattle.desk.specs.Calling.{Served, SameBounds, Does}
+use Rattle.desk.specs.Steps.{Grown, Altered, Unaltered, Does}
+use Rattle.desk.specs.Calling.{Served, SameBounds}
 use Rattle.desk.proofs.Words.{claims_counted, register_added, register_changed, register_ordered, comes_writes, claims_writes, proves_writes, body}
 
 -- a call that is not turned away, of a desk

@@ -1,5 +1,5 @@
 -- What a call does to a desk, and how it is answered. Assumes nothing.
-use Rattle.std.specs.Prelude.{◌≡◌, ℕ, ◌<◌, Bool, true, false, List, ◌++◌, length, if◌then◌else◌, ◌==◌, Ok, Err, Result, IfErr, slice_index}
+use Rattle.std.specs.Prelude.{◌≡◌, ℕ, Bool, true, false, List, ◌++◌, if◌then◌else◌, ◌==◌, Ok, Err, Result, IfErr, slice_index}
 use Rattle.estate.specs.Answers.{Answer, refused, number, parts, amounts}
 use Rattle.estate.specs.Calls.{Call}
 use Rattle.estate.specs.Changes.{after}
@@ -23,16 +23,6 @@ abbrev pub Given : Answer → List ℕ → List ℕ → Result ℕ TurnedAway �
 Given a out new (Ok n) = Written (answer_row a) out new n × Sendable a × (is_refused a ≡ false)
 Given a out new (Err t) = (a ≡ refusal t) × (new ≡ out)
 
--- It is written so, or there is too little room for it.
-unfoldable pub Sends : Answer → List ℕ → List ℕ → Result ℕ TurnedAway → Type 0
-Sends a out new (Ok n) = Written (answer_row a) out new n × Sendable a
-Sends a out new (Err t) = length out < length (answer_row a)
-
--- what is left of a call that was answered by a number, or turned away
-abbrev pub outcome : Result ℕ TurnedAway → Answer
-outcome (Ok n) = number n
-outcome (Err t) = refusal t
-
 -- The call c left memory m as new, and a is its answer: those that the definitions give for the estate.
 pub record Served (c : Call) (m new : List ℕ) (a : Answer) : Type 0 where
   pub memory : new ≡ layout (limits_of m) (after (limits_of m) (estate_of m) c) ++ rest_of m
@@ -42,10 +32,6 @@ pub record Served (c : Call) (m new : List ℕ) (a : Answer) : Type 0 where
 pub record SameBounds (m new : List ℕ) : Type 0 where
   pub limit : slice_index new 0 ≡ slice_index m 0
   pub rest : rest_of new ≡ rest_of m
-
--- What a call that is answered by a number, or turned away, leaves of memory m.
-unfoldable pub Does : Call → List ℕ → List ℕ → Result ℕ TurnedAway → Type 0
-Does c m new r = (Stands m → Served c m new (outcome r)) × IfErr r (λ _. new ≡ m) × SameBounds m new
 
 -- where too little is lent: the call is turned away by what is checked of it alone, or else for that
 abbrev pub unlent : Call → Answer

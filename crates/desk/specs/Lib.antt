@@ -1,5 +1,5 @@
 pub mod Memory
 pub mod Opening
-pub mod Headers
 pub mod Calling
+pub mod Steps
 pub mod Promises

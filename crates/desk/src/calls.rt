@@ -3,8 +3,8 @@ ghost use Rattle.std.specs.Prelude.{◌≡◌, ◌≤◌, length, IfSome, IfNone
 ghost use Rattle.estate.specs.Refusals.{checks_alone, first_refusal, place};
 ghost use Rattle.wire.specs.Meaning.{heard, meaning, told};
 ghost use Rattle.wire.specs.Reading.{read};
-ghost use Rattle.desk.specs.Calling.{Called, Sends};
-ghost use Rattle.desk.specs.Headers.{Reads};
+ghost use Rattle.desk.specs.Calling.{Called};
+ghost use Rattle.desk.specs.Steps.{Reads, Sends};
 ghost use Rattle.desk.specs.Memory.{Lent};
 ghost use Rattle.desk.specs.Promises.{DesksRight, RefusalsKeep, DescribedObeys};
 
@@ -88,7 +88,7 @@ impl Header {
 }
 
 // Writes an answer at the start of lent bytes, and says how long it is.
-#[tactic(auto, unfolding(crate::specs::Calling::Sends))]
+#[tactic(auto, unfolding(crate::specs::Steps::Sends))]
 pub(crate) fn send<L: Numbers>(answer: &Answer<L>, out: &mut [u8]) -> Result<usize, TurnedAway>
     ensures { Sends (told L.items answer.now) out.old out.new result }
 {

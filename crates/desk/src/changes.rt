@@ -3,11 +3,10 @@ ghost use Rattle.std.specs.Prelude.{◌≡◌, ◌≤◌, IfSome, IfNone};
 ghost use Rattle.estate.specs.Calls.{claims, proves, comes};
 ghost use Rattle.estate.specs.Limits.{most_cents};
 ghost use Rattle.register.specs.Rows.{middle};
-ghost use Rattle.desk.specs.Calling.{Does};
-ghost use Rattle.desk.specs.Headers.{Reads, Grown, Altered, Unaltered};
+ghost use Rattle.desk.specs.Steps.{Reads, Grown, Altered, Unaltered, Does};
 
-use crate::header::Header;
-use crate::opening::{HEADER, refused};
+use crate::header::{COUNT, HEADER, Header, THERE};
+use crate::opening::refused;
 use estate::MOST_THERE;
 use register::{Moved, Register};
 use wire::{Place, Refusal, TurnedAway};
@@ -25,7 +24,7 @@ impl Header {
             return Err(refused(Refusal::NoRoom, 0));
         };
         let count = self.count as u64;
-        mem[2] = count + 1;
+        mem[COUNT] = count + 1;
         Ok(count)
     }
 
@@ -53,13 +52,13 @@ impl Header {
         let Some(there) = Some(self.there + cents).filter(|&there| there <= MOST_THERE) else {
             return Err(refused(Refusal::NoRoom, 0));
         };
-        mem[1] = there;
+        mem[THERE] = there;
         Ok(there)
     }
 }
 
 // Adds a claim to a register of so many.
-#[tactic(auto, unfolding(crate::specs::Headers::Grown))]
+#[tactic(auto, unfolding(crate::specs::Steps::Grown))]
 fn add(rows: &mut [u64], count: usize, cents: u64) -> Option<usize>
     ensures some { IfSome result (λ _. Grown count cents rows.old rows.new) }
     ensures none { IfNone result ((middle rows.old ≤ count) × (rows.new ≡ rows.old)) }
@@ -68,7 +67,7 @@ fn add(rows: &mut [u64], count: usize, cents: u64) -> Option<usize>
 }
 
 // Changes a claim of a register of so many.
-#[tactic(auto, unfolding(crate::specs::Headers::Altered, crate::specs::Headers::Unaltered))]
+#[tactic(auto, unfolding(crate::specs::Steps::Altered, crate::specs::Steps::Unaltered))]
 fn change(rows: &mut [u64], count: usize, i: usize, cents: u64) -> Option<Moved>
     ensures some { IfSome result (λ _. Altered count i cents rows.old rows.new) }
     ensures none { IfNone result (Unaltered count i rows.old rows.new) }

@@ -1,12 +1,12 @@
 // How what is there is divided among the claims of a desk.
 ghost use Rattle.estate.specs.Calls.{cents};
 ghost use Rattle.desk.specs.Calling.{Called};
-ghost use Rattle.desk.specs.Headers.{Parted, Reads, Termed};
+ghost use Rattle.desk.specs.Steps.{Parted, Reads, Termed};
 ghost use Rattle.desk.specs.Memory.{Lent};
 
 use crate::calls::send;
-use crate::header::Header;
-use crate::opening::{HEADER, refused};
+use crate::header::{HEADER, Header};
+use crate::opening::refused;
 use cents::Cents;
 use level::{Terms, terms_of};
 use shares::Shares;
@@ -14,7 +14,7 @@ use wire::{Refusal, TurnedAway};
 
 impl Header {
     // The claims as they came, on the terms of the division.
-    #[tactic(auto, unfolding(crate::specs::Headers::Parted))]
+    #[tactic(auto, unfolding(crate::specs::Steps::Parted))]
     pub(crate) fn division(self, mem: &[u64]) -> Shares<'_>
         requires { Reads self mem.now }
         ensures { Parted mem.now result }

@@ -1,10 +1,20 @@
 // The header of a desk.
 ghost use Rattle.std.specs.Prelude.{◌≡◌, IfSome, IfNone};
-ghost use Rattle.desk.specs.Headers.{Reads};
+ghost use Rattle.desk.specs.Steps.{Reads};
 ghost use Rattle.desk.specs.Memory.{Lent};
 
 use crate::opening::asked;
 use estate::MOST_THERE;
+
+// How many words it has. Those behind the numbers are 0.
+pub(crate) const HEADER: usize = 64;
+
+// The places of its numbers.
+pub(crate) const LIMIT: usize = 0;
+
+pub(crate) const THERE: usize = 1;
+
+pub(crate) const COUNT: usize = 2;
 
 // What it says.
 #[derive(Clone, Copy, Debug)]

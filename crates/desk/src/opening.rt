@@ -3,11 +3,9 @@ ghost use Rattle.std.specs.Prelude.{◌≡◌, ◌+◌, ◌*◌, ◌≤◌, leng
 ghost use Rattle.desk.specs.Opening.{IsAsked, Opened};
 ghost use Rattle.desk.specs.Promises.{OneEstate};
 
+use crate::header::{HEADER, LIMIT};
 use estate::MOST_CREDITORS;
 use wire::{Place, Refusal, TurnedAway};
-
-// The words of the header.
-pub(crate) const HEADER: usize = 64;
 
 // How much who opens a desk has to lend.
 #[derive(Clone, Copy, Debug, PartialEq, Eq)]
@@ -43,7 +41,7 @@ pub fn open(mem: &mut [u64], limit: usize) -> Result<(), TurnedAway>
         return Err(refused(Refusal::NotLent, 1));
     }
     clear(&mut mem[..asked.words]);
-    mem[0] = limit as u64;
+    mem[LIMIT] = limit as u64;
     Ok(())
 }
 

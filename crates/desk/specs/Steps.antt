@@ -1,13 +1,21 @@
--- What the code reads of a desk, and what becomes of the words of its register. Assumes nothing.
-use Rattle.std.specs.Prelude.{◌≡◌, ℕ, List, slice_index}
+-- What the functions behind a call read and leave. Assumes nothing.
+use Rattle.std.specs.Prelude.{◌≡◌, ℕ, ◌<◌, List, length, Ok, Err, Result, IfErr, slice_index}
 use Rattle.level.specs.declared.closed.Terms.{Terms}
 use Rattle.shares.specs.declared.written.Shares.{Shares}
 use Rattle.shares.specs.Laws.{TermsFor}
 use Rattle.register.specs.Rows.{Addition, Change, Unchanged}
 use Rattle.register.specs.declared.rows.Unfit.{Unfit}
+use Rattle.wire.specs.Answers.{answer_row, Sendable}
+use Rattle.wire.specs.Written.{Stands as Written}
+use Rattle.wire.specs.declared.refusals.TurnedAway.{TurnedAway}
+use Rattle.estate.specs.Answers.{Answer, number}
+use Rattle.estate.specs.Calls.{Call}
 use Rattle.desk.specs.Memory.{estate_of, Headed, Stands}
+use Rattle.desk.specs.Opening.{refusal}
+use Rattle.desk.specs.Calling.{Served, SameBounds}
 use Rattle.desk.specs.declared.header.Header.{Header}
 
+-- what is read of the header
 pub record Reads (h : Header) (m : List ℕ) : Type 0 where
   pub limit : h.limit ≡ slice_index m 0
   pub there : h.there ≡ slice_index m 1
@@ -33,3 +41,17 @@ Altered n i c ws new = (from to : ℕ) × Change n i c from to ws new
 -- and as they were, for that does not fit
 unfoldable pub Unaltered : ℕ → ℕ → List ℕ → List ℕ → Type 0
 Unaltered n i ws new = (why : Unfit) × Unchanged n i ws why × (new ≡ ws)
+
+-- a number, or a call that is turned away, as an answer
+abbrev pub outcome : Result ℕ TurnedAway → Answer
+outcome (Ok n) = number n
+outcome (Err t) = refusal t
+
+-- What a call that is answered by a number, or turned away, leaves of memory m.
+unfoldable pub Does : Call → List ℕ → List ℕ → Result ℕ TurnedAway → Type 0
+Does c m new r = (Stands m → Served c m new (outcome r)) × IfErr r (λ _. new ≡ m) × SameBounds m new
+
+-- An answer was written at the start of lent bytes, and can be read back; or there was too little room for it.
+unfoldable pub Sends : Answer → List ℕ → List ℕ → Result ℕ TurnedAway → Type 0
+Sends a out new (Ok n) = Written (answer_row a) out new n × Sendable a
+Sends a out new (Err t) = length out < length (answer_row a)
