@@ -1,0 +1,72 @@
+// As many cents, and as many creditors, as there may be.
+use crate::common::{HELD, MUCH, assert_call, desk_of};
+use desk::open;
+use std::process::Abort;
+use std::test::Fail;
+use wire::Answer::{Amounts, Number, Parts, Refused};
+use wire::Call::{Cents, Claim, Come, Prove, Shares};
+use wire::{Refusal, TurnedAway};
+
+const NO_ROOM: TurnedAway = TurnedAway {
+    why: Refusal::NoRoom,
+    place: 0,
+};
+
+const NOT_LENT: TurnedAway = TurnedAway {
+    why: Refusal::NotLent,
+    place: 1,
+};
+
+// A thousand times as much as may come at once, and one cent.
+#[test]
+fn as_many_cents_as_may_be(rt: HostRuntime) -> Result<(), Fail> {
+    let mut mem = [HELD; 72];
+    open(&mut mem, 3)?;
+    for i in 0..1000 {
+        let there = (i + 1) * MUCH;
+        assert_call(&rt, &mut mem, Come(MUCH), 48, &Number(there));
+    }
+    assert_call(&rt, &mut mem, Come(1), 48, &Refused(NO_ROOM));
+    assert!(rt; mem == desk_of([3, 1_000_000_000_000, 0], &[0; 6]));
+    Ok(())
+}
+
+// As many claims as there may be, of ten cents each.
+fn fill(rt: &impl Abort, mem: &mut [u64]) {
+    for i in 0..1024 {
+        assert_call(rt, mem, Claim(10), 8216, &Number(i));
+    }
+}
+
+// There is no room for one more, and a header that says so is no desk's. The last claim becomes one cent, and 3,000 cents
+// come: the last has half a cent, and each of the others 5,999 parts of 2,046; 954 of them have three cents, and 69 two.
+#[test]
+fn as_many_creditors_as_may_be(rt: HostRuntime) -> Result<(), Fail> {
+    let mut mem = [HELD; 2114];
+    open(&mut mem, 1024)?;
+    fill(&rt, &mut mem);
+    let before = mem;
+    assert_call(&rt, &mut mem, Claim(10), 8216, &Refused(NO_ROOM));
+    assert!(rt; mem == before);
+    mem[0] = 1025;
+    assert_call(&rt, &mut mem, Come(0), 8224, &Refused(NOT_LENT));
+    mem[0] = 1024;
+    assert!(rt; mem == before);
+    assert_call(&rt, &mut mem, Prove(1023, 1), 8216, &Number(1023));
+    assert_call(&rt, &mut mem, Come(3000), 8216, &Number(3000));
+    assert!(rt; mem[1086..1090] == [10, 1, 1, 10][..]);
+    assert!(rt; mem[2111..] == [10, HELD, HELD][..]);
+    let mut shares = [5999; 1024];
+    shares[1023] = 1023;
+    assert_call(&rt, &mut mem, Shares, 8216, &Parts(2046, &shares));
+    let mut cents = [2; 1024];
+    cents[..954].fill(3);
+    cents[1023] = 0;
+    assert_call(&rt, &mut mem, Cents, 8216, &Amounts(&cents));
+    let mut sum = 0u64;
+    for amount in cents {
+        sum = sum.wrapping_add(amount);
+    }
+    assert_eq!(rt; sum, 3000);
+    Ok(())
+}
