@@ -1,9 +1,11 @@
 -- What is answered, and what it leaves. Assumes nothing.
-use Rattle.std.proofs.Common.{◌≡◌, ℕ, ◌*◌, ◌/◌, ◌≤◌, List, length, slice_index, sum, Ok, Err, Result, refl, ap, ◌∙◌, arith, false}
+use Rattle.std.proofs.Common.{◌≡◌, ℕ, ◌*◌, ◌/◌, ◌≤◌, List, length, slice_index, sum, Ok, Err, Result, refl, ap, ◌∙◌, arith, false, ◌==◌, sym}
 use Rattle.std.proofs.lemmas.List.{length-map}
+use Rattle.std.proofs.lemmas.Bool.{false≢true}
 use Rattle.std.specs.Result.{IsOkAnd}
 use Rattle.estate.specs.Answers.{Answer, number, parts, amounts}
 use Rattle.estate.specs.Calls.{Call, shares, cents}
+use Rattle.estate.specs.Refusals.{checks_alone, first_refusal}
 use Rattle.estate.proofs.WholeCents.{cents_rounded}
 use Rattle.shares.specs.declared.written.Shares.{Shares}
 use Rattle.shares.specs.Shares.{parts_word, share_word, shares_of}
@@ -19,27 +21,32 @@ use Rattle.wire.specs.declared.refusals.TurnedAway.{TurnedAway}
 use Rattle.wire.proofs.Bytes.{length-row}
 use Rattle.desk.specs.Memory.{estate_of, Stands, Lent}
 use Rattle.desk.specs.Steps.{Parted, Termed, Sends, Does}
-use Rattle.desk.specs.Calling.{is_refused, Served, SameBounds, Called}
+use Rattle.desk.specs.Calling.{is_refused, Served, SameBounds, Told, Called}
 use Rattle.desk.specs.Opening.{refusal}
 use Rattle.desk.proofs.Words.{claims_counted}
 use Rattle.desk.proofs.Keeping.{unchanged}
 
+-- a call in which nothing is wrong by itself is not turned away for that
+pub not_alone : (c : Call) (X : Type 0) → first_refusal (checks_alone c) ≡ 0 → (first_refusal (checks_alone c) == 0) ≡ false → X
+not_alone c X none f = absurd (false≢true (sym (rw none at f)))
+
 module _ (m out : List ℕ) (lent : Lent m out) where
   -- an answer that is no refusal, and for which there is room
-  answered_by : (c : Call) (new sent : List ℕ) (a : Answer) (r : Result ℕ TurnedAway) → is_refused a ≡ false → length (answer_row a) ≤ length out → (Stands m → Served c m new a) → SameBounds m new → Sends a out sent r → Called c m new out sent r
+  answered_by : (c : Call) (new sent : List ℕ) (a : Answer) (r : Result ℕ TurnedAway) → first_refusal (checks_alone c) ≡ 0 → is_refused a ≡ false → length (answer_row a) ≤ length out → (Stands m → Served c m new a) → Told c m new a → SameBounds m new → Sends a out sent r → Called c m new out sent r
   unfolding Sends Called
-  answered_by c new sent a (Ok n) plain room served bounds w =
-      (a, (w.0, w.1, plain), λ d l. served d, λ un. absurd (un lent), tt, bounds)
-  answered_by c new sent a (Err t) plain room served bounds w = let none : ⊥ = omega (arith, room, w) in absurd none
+  answered_by c new sent a (Ok n) none plain room served told bounds w =
+      (a, (w.0, w.1, plain), λ d l. served d, λ un. absurd (un lent), not_alone c _ none, λ l. told, tt, bounds)
+  answered_by c new sent a (Err t) none plain room served told bounds w = let no_room : ⊥ = omega (arith, room, w) in absurd no_room
 
-  pub number_done : (c : Call) (new sent : List ℕ) (n : ℕ) (r : Result ℕ TurnedAway) → Does c m new (Ok n) → Sends (number n) out sent r → Called c m new out sent r
+  pub number_done : (c : Call) (new sent : List ℕ) (n : ℕ) (r : Result ℕ TurnedAway) → first_refusal (checks_alone c) ≡ 0 → Does c m new (Ok n) → Sends (number n) out sent r → Called c m new out sent r
   unfolding Does
-  number_done c new sent n r d w =
-      answered_by c new sent (number n) r refl (omega (arith, lent.bytes, length-row)) d.0 d.2 w
+  number_done c new sent n r none d w =
+      answered_by c new sent (number n) r none refl (omega (arith, lent.bytes, length-row)) d.0 d.1 d.3 w
 
-  pub number_refused : (c : Call) (new : List ℕ) (t : TurnedAway) → Does c m new (Err t) → Called c m new out out (Err t)
+  pub number_refused : (c : Call) (new : List ℕ) (t : TurnedAway) → first_refusal (checks_alone c) ≡ 0 → Does c m new (Err t) → Called c m new out out (Err t)
   unfolding Does Called
-  number_refused c new t d = (refusal t, (refl, refl), λ s l. d.0 s, λ un. absurd (un lent), d.1, d.2)
+  number_refused c new t none d =
+      (refusal t, (refl, refl), λ s l. d.0 s, λ un. absurd (un lent), not_alone c _ none, λ l. d.1, d.2, d.3)
 
   -- the shares of the claims, on the terms of the division
   module _ (s : Shares) (parted : Parted m s) where
@@ -57,7 +64,7 @@ module _ (m out : List ℕ) (lent : Lent m out) where
         let served : Stands m → Served shares m m a = λ d.
         let f = terms_for d in
         record { memory = d.laid; answer = is ∙ rw parted.1 (shares_divide (estate_of m) f.0 s.terms f.1).said } in
-        answered_by shares m sent a r (rw is refl) (rw is (omega (arith, few, lent.bytes, length-row))) served (unchanged m) w
+        answered_by shares m sent a r refl (rw is refl) (rw is (omega (arith, few, lent.bytes, length-row))) served refl (unchanged m) w
 
     module _ (r : Result (Cents Shares) CentsError) (comes : Comes shares_of (parts_word s.terms) (shares_of s) r) where
       cents_room : (k : Cents Shares) → r ≡ Ok k → length (answer_row (amounts (cents_of shares_of k))) ≤ length out
@@ -76,7 +83,7 @@ module _ (m out : List ℕ) (lent : Lent m out) where
       pub cents_done : (k : Cents Shares) (a : Answer) (sent : List ℕ) (v : Result ℕ TurnedAway) → r ≡ Ok k → a ≡ amounts (cents_of shares_of k) → Sends a out sent v → Called cents m m out sent v
       cents_done k a sent v done is w =
           let served : Stands m → Served cents m m a = λ d. record { memory = d.laid; answer = is ∙ (rw done at (paid d)).said } in
-          answered_by cents m sent a v (rw is refl) (rw is (cents_room k done)) served (unchanged m) w
+          answered_by cents m sent a v refl (rw is refl) (rw is (cents_room k done)) served refl (unchanged m) w
 
       pub cents_failed : (why : CentsError) (v : TurnedAway) → r ≡ Err why → Called cents m m out out (Err v)
       unfolding Called
@@ -85,6 +92,8 @@ module _ (m out : List ℕ) (lent : Lent m out) where
         (refl, refl),
         λ d l. absurd (rw is at (paid d)),
         λ un. absurd (un lent),
+        not_alone cents _ refl,
+        λ l. refl,
         refl,
         unchanged m,
       )

@@ -1,36 +1,52 @@
 -- Calls that are turned away for what they are, or for want of what is lent; and places held in 32 bits. Assumes nothing.
 use Rattle.std.proofs.Common.{◌≡◌, ℕ, ◌^◌, ◌<◌, List, length, Ok, Err, Result, refl, sym, ◌∙◌, arith, false, ◌==◌}
 use Rattle.std.proofs.lemmas.Bool.{false≢true}
+use mathlib.Core.Logic.{◌⊎◌, inl, inr}
 use Rattle.std.proofs.lemmas.Bool.Decides.{nat_tests}
 use Rattle.std.specs.Prelude.{IsErrAnd}
-use Rattle.estate.specs.Answers.{refused}
+use Rattle.estate.specs.Answers.{Answer, refused}
 use Rattle.estate.specs.Estates.{Estate, counted}
 use Rattle.estate.specs.Limits.{Limits}
 use Rattle.estate.specs.Calls.{Call, claims, proves, comes, shares, cents, garbled}
 use Rattle.estate.specs.Refusals.{checks_alone, first_refusal, turned, place}
+use Rattle.estate.specs.Right.{answered}
 use Rattle.wire.specs.Calls.{narrow}
 use Rattle.wire.specs.Reading.{read, Heard}
 use Rattle.wire.specs.declared.refusals.TurnedAway.{TurnedAway}
 use Rattle.wire.specs.declared.refusals.Refusal.TheVariants.{Unreadable, TooLarge, NotLent}
 use Rattle.wire.proofs.Narrow.{narrow_enough}
-use Rattle.desk.specs.Memory.{limits_of, estate_of, Lent}
-use Rattle.desk.specs.Calling.{Called, unlent}
+use Rattle.desk.specs.Memory.{limits_of, estate_of, Headed, Lent}
+use Rattle.desk.specs.Calling.{Told, AsTold, Called, turned_unlent}
 use Rattle.desk.specs.Opening.{refusal}
-use Rattle.desk.proofs.Keeping.{refused_by, unchanged}
+use Rattle.desk.proofs.Keeping.{refused_by, kept_told, unchanged}
+use Rattle.desk.proofs.Words.{claims_counted}
+use Rattle.desk.proofs.Answering.{not_alone}
 
 -- what is checked of a call alone does not depend on the width of a place
-narrow_alone : (c : Call) → unlent (narrow c) ≡ unlent c
-narrow_alone (claims c) = refl
-narrow_alone (proves i c) = refl
-narrow_alone (comes x) = refl
-narrow_alone shares = refl
-narrow_alone cents = refl
-narrow_alone (garbled n) = refl
+narrow_alone : (c : Call) → (first_refusal (checks_alone (narrow c)) ≡ first_refusal (checks_alone c)) × (turned_unlent (narrow c) ≡ turned_unlent c)
+narrow_alone (claims c) = (refl, refl)
+narrow_alone (proves i c) = (refl, refl)
+narrow_alone (comes x) = (refl, refl)
+narrow_alone shares = (refl, refl)
+narrow_alone cents = (refl, refl)
+narrow_alone (garbled n) = (refl, refl)
 
--- nor does what a desk does, which has no more than 1,024 claims
+-- nor does what memory tells, which is no more than 1,024 claims
+narrow_told : (c : Call) (m new : List ℕ) (a : Answer) → Headed m → Told (narrow c) m new a → Told c m new a
+narrow_told (claims c) m new a h t = t
+narrow_told (proves i c) m new a h t =
+    let few : length (counted (estate_of m)) < 2 ^ 32 = omega (arith, claims_counted m h, h.few, h.limit) in
+    let same = narrow_enough (limits_of m) (estate_of m) (proves i c) few in
+    rw same.1 at (rw same.0 at t)
+narrow_told (comes x) m new a h t = t
+narrow_told shares m new a h t = t
+narrow_told cents m new a h t = t
+narrow_told (garbled n) m new a h t = t
+
+-- nor does what a desk does
 widened : (c : Call) (m new out sent : List ℕ) (r : Result ℕ TurnedAway) → Called (narrow c) m new out sent r → Called c m new out sent r
 unfolding Called
-widened c m new out sent r (a, g, s, u, k, b) = (
+widened c m new out sent r (a, g, s, u, f, t, k, b) = (
   a,
   g,
   λ d l.
@@ -38,7 +54,9 @@ widened c m new out sent r (a, g, s, u, k, b) = (
       let same = narrow_enough (limits_of m) (estate_of m) c few in
       let v = s d l in
       record { memory = rw same.1 at v.memory; answer = rw same.0 at v.answer },
-  λ n. u n ∙ narrow_alone c,
+  λ n. u n ∙ (narrow_alone c).1,
+  λ n. f (rw (narrow_alone c).0 n) ∙ (narrow_alone c).1,
+  λ l. narrow_told c m new a l.headed (t l),
   k,
   b,
 )
@@ -52,16 +70,31 @@ turned_alone l e shares f = absurd (false≢true (sym f))
 turned_alone l e cents f = absurd (false≢true (sym f))
 turned_alone l e (garbled n) f = refl
 
+pub answered_alone : (l : Limits) (e : Estate) (c : Call) → (first_refusal (checks_alone c) == 0) ≡ false → answered l e c ≡ turned_unlent c
+answered_alone l e c f = rw (turned_alone l e c f, f) refl
+
+-- shares and cents change nothing, and the others do as the definitions have it
+pub told_of : (c : Call) (m new : List ℕ) (a : Answer) → AsTold c m new a → ((c ≡ shares) ⊎ (c ≡ cents) → new ≡ m) → Told c m new a
+told_of (claims c) m new a t s = t
+told_of (proves i c) m new a t s = inl t
+told_of (comes x) m new a t s = t
+told_of shares m new a t s = s (inl refl)
+told_of cents m new a t s = s (inr refl)
+told_of (garbled n) m new a t s = t
+
 turned_away : (c : Call) (m out : List ℕ) (t : TurnedAway) → (first_refusal (checks_alone c) == 0) ≡ false → refusal t ≡ refused (first_refusal (checks_alone c)) (place c (first_refusal (checks_alone c))) → Called c m m out out (Err t)
 unfolding Called
-turned_away c m out t f is = (
-  refusal t,
-  (refl, refl),
-  λ d l. let n = turned_alone (limits_of m) (estate_of m) c f in refused_by c m _ (rw n f) (rw n is) d,
-  λ un. rw f is,
-  refl,
-  unchanged m,
-)
+turned_away c m out t f is =
+    let n = turned_alone (limits_of m) (estate_of m) c f in (
+      refusal t,
+      (refl, refl),
+      λ d l. refused_by c m _ (rw n f) (rw n is) d,
+      λ un. rw f is,
+      λ f. rw f is,
+      λ l. told_of c m m _ (kept_told c m _ (rw n f) (rw n is)) (λ s. refl),
+      refl,
+      unchanged m,
+    )
 
 module _ (c : Call) (m out : List ℕ) (t : TurnedAway) where
   pub too_large : (p : ℕ) → t ≡ record { why = TooLarge; place = p } → first_refusal (checks_alone c) ≡ 2 → p ≡ place c 2 → Called c m m out out (Err t)
@@ -70,7 +103,7 @@ module _ (c : Call) (m out : List ℕ) (t : TurnedAway) where
   pub too_little : t ≡ record { why = NotLent; place = 1 } → first_refusal (checks_alone c) ≡ 0 → (Lent m out → ⊥) → Called c m m out out (Err t)
   unfolding Called
   too_little is f un =
-      (refusal t, (refl, refl), λ d l. absurd (un l), λ n. rw (f, is) refl, refl, unchanged m)
+      (refusal t, (refl, refl), λ d l. absurd (un l), λ n. rw (f, is) refl, not_alone c _ f, λ l. absurd (un l), refl, unchanged m)
 
 pub unread : (p : ℕ) (m out : List ℕ) (r : Result ℕ TurnedAway) → IsErrAnd r (λ t. (t.why ≡ Unreadable) × (t.place ≡ p)) → Called (garbled p) m m out out r
 unread p m out (Ok n) e = absurd e

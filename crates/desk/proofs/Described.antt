@@ -1,6 +1,7 @@
 -- The desk that the definitions describe does as the contracts say: its answers can be given. Assumes nothing.
 use Rattle.std.proofs.Common.{◌≡◌, ℕ, zero, suc, ◌+◌, ◌^◌, ◌<◌, ◌≤◌, Bool, true, false, ◌==◌, List, [], ◌∷◌, ◌++◌, length, drop, replicate, Ok, Err, Result, refl, sym, ap, ◌∙◌, arith, mul-le-mul}
 use Rattle.std.proofs.lemmas.Bool.{false≢true}
+use mathlib.Core.Logic.{◌⊎◌, inl, inr}
 use Rattle.std.proofs.lemmas.Bool.Decides.{nat_tests}
 use Rattle.std.proofs.Math.ListN.{drop_of_length-le}
 use Rattle.std.proofs.lemmas.List.{places, length-replicate, append-nil}
@@ -27,7 +28,8 @@ use Rattle.wire.proofs.Bytes.{length-row}
 use Rattle.desk.specs.Memory.{words_asked, bytes_asked, limits_of, estate_of, rest_of, layout, Fair}
 use Rattle.desk.specs.Calling.{is_refused, Given, Called}
 use Rattle.desk.specs.Promises.{DescribedObeys}
-use Rattle.desk.proofs.Words.{limits_read, rest_read}
+use Rattle.desk.proofs.Words.{limits_read, estate_read, rest_read}
+use Rattle.desk.proofs.Checking.{answered_alone, told_of}
 use Rattle.desk.proofs.Promised.{fair_after}
 
 -- what turns a call away has a name
@@ -125,7 +127,20 @@ described_obeys = record {
   calls = λ m c out s lent.
       let l = limits_of m.words in
       let e = estate_of m.words in
-      let (sent, r, g, away) = given l e s.fair c out _ refl lent.bytes in
+      let rest = rest_of m.words in
+      let new : List ℕ = layout l (after l e c) ++ rest in
       let few = (fair_after l e c s.fair).few in
-      (sent, r, (answered l e c, g, λ _ _. record { memory = refl; answer = refl }, λ un. absurd (un lent), in_err r _ _ away (λ t. rw t (sym s.laid)), record { limit = ap (λ k. k.creditors) (limits_read l.creditors (after l e c) (rest_of m.words) few); rest = rest_read l.creditors (after l e c) (rest_of m.words) few }), g);
+      let (sent, r, g, away) = given l e s.fair c out _ refl lent.bytes in
+      let asks : (c ≡ shares) ⊎ (c ≡ cents) → new ≡ m.words = λ h. elim h [ inl is ↦ rw is (sym s.laid) | inr is ↦ rw is (sym s.laid) ] in
+      let called : Called c m.words new out sent r = (
+        answered l e c,
+        g,
+        λ _ _. record { memory = refl; answer = refl },
+        λ un. absurd (un lent),
+        answered_alone l e c,
+        λ _. told_of c m.words new _ (refl, estate_read l.creditors (after l e c) rest few) asks,
+        in_err r _ _ away (λ t. rw t (sym s.laid)),
+        record { limit = ap (λ k. k.creditors) (limits_read l.creditors (after l e c) rest few); rest = rest_read l.creditors (after l e c) rest few },
+      ) in
+      (sent, r, called, g);
 }

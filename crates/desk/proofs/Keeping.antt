@@ -1,8 +1,9 @@
 -- What the calls that change a desk leave. Assumes nothing.
 use Rattle.std.proofs.Common.{◌≡◌, ℕ, false, ◌==◌, ◌+◌, ◌*◌, ◌<◌, ◌≤◌, List, [], ◌∷◌, ◌++◌, length, take, drop, slice_index, slice_set, Ok, Err, sym, refl, ap, ◌∙◌, arith}
 use borrow.Rule.Slice.PartMut.{put_mid}
-use Rattle.std.proofs.lemmas.List.{places, take-append-drop, length_push, drop-set-lt, length-set, length-take-le, length-drop}
+use Rattle.std.proofs.lemmas.List.{places, take-append-drop, take-take, length_push, drop-set-lt, length-set, length-take-le, length-drop}
 use Rattle.std.proofs.lemmas.Slice.{drop-put_mid}
+use mathlib.Core.Logic.{inl, inr}
 use Rattle.std.proofs.lemmas.Bool.Decides.{nat_tests}
 use Rattle.estate.specs.Answers.{Answer, number, refused}
 use Rattle.estate.specs.Refusals.{turned, place}
@@ -17,19 +18,22 @@ use Rattle.wire.specs.declared.refusals.TurnedAway.{TurnedAway}
 use Rattle.wire.specs.declared.refusals.Refusal.TheVariants.{NoRoom, NotThere}
 use Rattle.desk.specs.Memory.{header_words, register, words_asked, layout, limits_of, estate_of, rest_of, Headed, Stands}
 use Rattle.desk.specs.Steps.{Grown, Altered, Unaltered, Does}
-use Rattle.desk.specs.Calling.{Served, SameBounds}
-use Rattle.desk.proofs.Words.{claims_counted, register_added, register_changed, register_ordered, comes_writes, claims_writes, proves_writes, body}
+use Rattle.desk.specs.Calling.{Served, SameBounds, AsTold}
+use Rattle.desk.proofs.Words.{claims_counted, put_below, comes_told, claims_told, proves_told, came_added, came_changed, register_added, register_changed, register_ordered, comes_writes, claims_writes, proves_writes, body}
 
 -- a call that is not turned away, of a desk
 served_by : (c : Call) (m new : List ℕ) (a : Answer) → turned (limits_of m) (estate_of m) c ≡ 0 → new ≡ layout (limits_of m) (changed (estate_of m) c) ++ rest_of m → a ≡ says (estate_of m) c → Served c m new a
 served_by c m new a t w s = record { memory = rw t w; answer = rw t s }
 
+told_by : (c : Call) (m new : List ℕ) (a : Answer) → turned (limits_of m) (estate_of m) c ≡ 0 → estate_of new ≡ changed (estate_of m) c → a ≡ says (estate_of m) c → AsTold c m new a
+told_by c m new a t w s = (rw t s, rw t w)
+
 -- a call that is turned away
 pub refused_by : (c : Call) (m : List ℕ) (a : Answer) → (turned (limits_of m) (estate_of m) c == 0) ≡ false → a ≡ refused (turned (limits_of m) (estate_of m) c) (place c (turned (limits_of m) (estate_of m) c)) → Stands m → Served c m m a
 refused_by c m a t s d = record { memory = rw t d.laid; answer = rw t s }
 
-put_below : (a k i : ℕ) (xs ys : List ℕ) → i < a → a ≤ length xs → slice_index (put_mid a k xs ys) i ≡ slice_index xs i
-put_below a k i xs ys less room = grind (arith, places)
+pub kept_told : (c : Call) (m : List ℕ) (a : Answer) → (turned (limits_of m) (estate_of m) c == 0) ≡ false → a ≡ refused (turned (limits_of m) (estate_of m) c) (place c (turned (limits_of m) (estate_of m) c)) → AsTold c m m a
+kept_told c m a t s = (rw t s, rw t refl)
 
 pub unchanged : (m : List ℕ) → SameBounds m m
 unchanged m = record { limit = refl; rest = refl }
@@ -38,11 +42,14 @@ bounded : (m new : List ℕ) → slice_index new 0 ≡ slice_index m 0 → drop 
 bounded m new one two = record { limit = one; rest = rw one two }
 
 -- memory whose header says what there is
-module _ (m : List ℕ) (there : ℕ) (is_there : there ≡ slice_index m 1) where
+module _ (m : List ℕ) (there : ℕ) (is_there : there ≡ slice_index m 1) (headed : Headed m) where
   pub come_done : (x : ℕ) → x ≤ most_cents → there + x ≤ most_there → Does (comes x) m (slice_set m 1 (there + x)) (Ok (there + x))
   unfolding says Does
-  come_done x few room = (
-    λ s. served_by (comes x) m _ _ (grind (arith, nat_tests)) (rw is_there (ap (λ ws. slice_set ws 1 (slice_index m 1 + x)) s.laid ∙ comes_writes _ (estate_of m) (rest_of m) (slice_index m 1 + x))) (ap number (ap (λ t. t + x) is_there)),
+  come_done x few room =
+      let t : turned (limits_of m) (estate_of m) (comes x) ≡ 0 = grind (arith, nat_tests) in
+      let n = ap number (ap (λ t. t + x) is_there) in (
+    λ s. served_by (comes x) m _ _ t (rw is_there (ap (λ ws. slice_set ws 1 (slice_index m 1 + x)) s.laid ∙ comes_writes _ (estate_of m) (rest_of m) (slice_index m 1 + x))) n,
+    told_by (comes x) m (slice_set m 1 (there + x)) _ t (rw is_there (comes_told m headed (slice_index m 1 + x))) n,
     tt,
     bounded m _ (grind (arith, places)) (drop-set-lt _ m 1 _ (omega arith)),
   )
@@ -51,6 +58,7 @@ module _ (m : List ℕ) (there : ℕ) (is_there : there ≡ slice_index m 1) whe
   unfolding Does
   come_full x t few full is = (
     refused_by (comes x) m _ (grind (arith, nat_tests)) (rw is (grind (arith, nat_tests))),
+    kept_told (comes x) m _ (grind (arith, nat_tests)) (rw is (grind (arith, nat_tests))),
     refl,
     unchanged m,
   )
@@ -69,6 +77,9 @@ module _ (m : List ℕ) (limit count k : ℕ) (is_limit : limit ≡ slice_index 
 
   count_is : length (estate_of m).claimed ≡ count
   count_is = claims_counted m headed ∙ sym is_count
+
+  came : take count part0 ≡ (estate_of m).claimed
+  came = let within : count ≤ k = omega (arith, headed.few, is_limit, is_count) in take-take count k (drop header_words m) within ∙ ap (λ n. take n (drop header_words m)) is_count
 
   part_is : Stands m → part0 ≡ register (limits_of m) (estate_of m)
   part_is s =
@@ -92,7 +103,9 @@ module _ (m : List ℕ) (limit count k : ℕ) (is_limit : limit ≡ slice_index 
       let a = g.1 in
       let n = count_is in
       let room : count < limit = omega (arith, a.room, part_middle) in
-      let b = put_bounded part (a.inserted.carried.long ∙ length-set part0 count c) in (
+      let same = a.inserted.carried.long ∙ length-set part0 count c in
+      let b = put_bounded part same in
+      let t : turned (limits_of m) (estate_of m) (claims c) ≡ 0 = grind (arith, nat_tests, is_limit) in (
         λ s.
             let cs = (estate_of m).claimed ++ c ∷ [] in
             let new = register_added _ (estate_of m) s.fair.few c g.0 part (rw (part_is s, sym n) at a) in
@@ -101,7 +114,8 @@ module _ (m : List ℕ) (limit count k : ℕ) (is_limit : limit ≡ slice_index 
             let k = span in
             let l = is_limit in
             let d = s.laid in
-            served_by (claims c) m _ _ (grind (arith, nat_tests, is_limit)) (cc) (ap number (sym n)),
+            served_by (claims c) m _ _ t (cc) (ap number (sym n)),
+        told_by (claims c) m (slice_set (put_mid header_words k m part) 2 (count + 1)) _ t (claims_told m headed k part (count + 1) _ (omega (arith, same, part_long)) (came_added count c g.0 part0 part a ∙ ap (λ cs. cs ++ c ∷ []) came)) (ap number (sym n)),
         tt,
         bounded m _ (grind (arith, places, b.limit)) (drop-set-lt (words_asked (slice_index m 0)) (put_mid header_words k m part) 2 _ (omega arith) ∙ rw b.limit at b.rest),
       )
@@ -114,6 +128,7 @@ module _ (m : List ℕ) (limit count k : ℕ) (is_limit : limit ≡ slice_index 
       let full : limit ≤ count = omega (arith, part_middle) in
       rw same (
         refused_by (claims c) m _ (grind (arith, nat_tests, is_limit)) (rw is (grind (arith, nat_tests, is_limit))),
+        kept_told (claims c) m _ (grind (arith, nat_tests, is_limit)) (rw is (grind (arith, nat_tests, is_limit))),
         refl,
         unchanged m,
       )
@@ -123,7 +138,9 @@ module _ (m : List ℕ) (limit count k : ℕ) (is_limit : limit ≡ slice_index 
   prove_done i x c part b few same =
       let a = b.2 in
       let n = count_is in
-      let there = a.there in (
+      let there = a.there in
+      let long = a.replaced.carried.long ∙ length-set part0 i c in
+      let t : turned (limits_of m) (estate_of m) (proves i c) ≡ 0 = grind (arith, nat_tests) in (
         λ s.
             let cs = slice_set (estate_of m).claimed i c in
             let long = length-set (estate_of m).claimed i c in
@@ -132,9 +149,10 @@ module _ (m : List ℕ) (limit count k : ℕ) (is_limit : limit ≡ slice_index 
             let k = span in
             let l = is_limit in
             let d = s.laid in
-            served_by (proves i c) m _ _ (grind (arith, nat_tests)) (cc) (ap number same),
+            served_by (proves i c) m _ _ t (cc) (ap number same),
+        inl (told_by (proves i c) m (put_mid header_words k m part) _ t (proves_told m headed k part _ (omega (arith, long, part_long)) (rw is_count at (came_changed count i c b.0 b.1 part0 part a) ∙ ap (λ cs. slice_set cs i c) (rw is_count at came))) (ap number same)),
         tt,
-        put_bounded part (a.replaced.carried.long ∙ length-set part0 i c),
+        put_bounded part long,
       )
 
   missing : (i : ℕ) → Stands m → (why : Unfit) → Unchanged count i part0 why → count ≤ i
@@ -149,6 +167,7 @@ module _ (m : List ℕ) (limit count k : ℕ) (is_limit : limit ≡ slice_index 
       let same : put_mid header_words k m part ≡ m = rw b.2 unwritten in
       rw same (
         λ s. let none = missing i s b.0 b.1 in refused_by (proves i c) m _ (grind (arith, nat_tests)) (rw is (grind (arith, nat_tests))) s,
+        inr (rw is refl, refl),
         refl,
         unchanged m,
       )

@@ -1,9 +1,10 @@
 -- The words of a desk: what is read of them, and what each call writes. All that opens the layout stands here. Assumes
 -- nothing.
-use Rattle.std.proofs.Common.{◌≡◌, ℕ, ◌+◌, ◌*◌, ◌≤◌, List, [], ◌∷◌, ◌++◌, length, take, drop, replicate, slice_set, sym, refl, ◌∙◌, arith, append_assoc, length-append, slice_index, drop-drop}
+use Rattle.std.proofs.Common.{◌≡◌, ℕ, ◌+◌, ◌*◌, ◌<◌, ◌≤◌, List, [], ◌∷◌, ◌++◌, length, take, drop, replicate, slice_set, sym, refl, ◌∙◌, arith, append_assoc, length-append, slice_index, drop-drop}
 use borrow.Rule.Slice.PartMut.{put_mid}
-use Rattle.std.proofs.lemmas.List.{places, take-append-drop, replicate-append-replicate, length-replicate, drop_at, length-take-le, length-drop}
-use Rattle.std.proofs.lemmas.Grind.{common_steps}
+use Rattle.std.proofs.lemmas.List.{places, ext_get_or, length-set, length-take, take-append-drop, replicate-append-replicate, length-replicate, drop_at, length-take-le, length-drop, drop-set-lt, take-append-le, get_or-set_same, get_or-set_other}
+use Rattle.std.proofs.lemmas.Grind.{common_steps, elements}
+use Rattle.std.proofs.Math.Seq.{take-set-lt}
 use Rattle.estate.specs.Order.{sorted}
 use Rattle.estate.specs.Estates.{Estate, new_estate, with_there, with_claimed}
 use Rattle.register.specs.Rows.{middle, kept, Addition, Change, Unchanged}
@@ -177,7 +178,72 @@ module _ (n : ℕ) (e : Estate) (rest : List ℕ) where
         let l = laid n (with_claimed e cs) rest some in
         cc
 
+pub put_below : (a k i : ℕ) (xs ys : List ℕ) → i < a → a ≤ length xs → slice_index (put_mid a k xs ys) i ≡ slice_index xs i
+put_below a k i xs ys less room = grind (arith, places)
+
+-- what is the same below a place has the same words before it
+same_front : (n : ℕ) (xs ys : List ℕ) → n ≤ length xs → length xs ≡ length ys → ((k : ℕ) → k < n → slice_index xs k ≡ slice_index ys k) → take n xs ≡ take n ys
+same_front n xs ys few long same =
+    ext_get_or 0 _ _ (grind (arith, places)) (λ k h.
+        let at = same k (omega (arith, h, length-take n xs)) in
+        grind (arith, places))
+
+-- of any register, the claims as they came
+pub came_added : (n c at : ℕ) (ws new : List ℕ) → Addition n c at ws new → take (n + 1) new ≡ take n ws ++ c ∷ []
+came_added n c at ws new a =
+    let room = a.room in
+    let long = a.inserted.carried.long in
+    let wide = length-set ws n c in
+    let front = same_front (n + 1) new (slice_set ws n c) (omega arith) long (λ k h. a.inserted.carried.below k (omega (arith, a.inserted.fits.above)) (omega arith)) in
+    let last : take (n + 1) (slice_set ws n c) ≡ take n ws ++ c ∷ [] = grind (arith, elements) in
+    front ∙ last
+
+pub came_changed : (n i c from to : ℕ) (ws new : List ℕ) → Change n i c from to ws new → take n new ≡ slice_set (take n ws) i c
+came_changed n i c from to ws new a =
+    let room = a.room in
+    let there = a.there in
+    let long = a.replaced.carried.long in
+    let wide = length-set ws i c in
+    let front = same_front n new (slice_set ws i c) (omega arith) long (λ k h. a.replaced.carried.below k (omega (arith, a.replaced.goes.above)) (omega (arith, a.replaced.stood.fits.above))) in
+    front ∙ take-set-lt n ws i c there
+
 -- of any memory whose header may be a desk's
-pub claims_counted : (m : List ℕ) → Headed m → length (estate_of m).claimed ≡ slice_index m 2
-claims_counted m h =
-    length-take-le _ (drop header_words m) (omega (arith, length-drop header_words m, h.words, h.few))
+module _ (m : List ℕ) (h : Headed m) where
+  pub claims_counted : length (estate_of m).claimed ≡ slice_index m 2
+  claims_counted =
+      length-take-le _ (drop header_words m) (omega (arith, length-drop header_words m, h.words, h.few))
+
+  pub comes_told : (x : ℕ) → estate_of (slice_set m 1 x) ≡ with_there (estate_of m) x
+  comes_told x =
+      let there = get_or-set_same m 1 x 0 (omega (arith, h.words)) in
+      let count = get_or-set_other m 1 2 x 0 (omega arith) in
+      let rest = drop-set-lt header_words m 1 x (omega arith) in
+      rw (there, count, rest) refl
+
+  -- another part in place of the register
+  module _ (k : ℕ) (part : List ℕ) where
+    put_there : slice_index (put_mid header_words k m part) 1 ≡ slice_index m 1
+    put_there = put_below header_words k 1 m part (omega arith) (omega (arith, h.words))
+
+    length_put : 2 < length (put_mid header_words k m part)
+    length_put =
+        omega (arith, length-append {A = ℕ}, length-take-le header_words m (omega (arith, h.words)))
+
+    put_count : slice_index (put_mid header_words k m part) 2 ≡ slice_index m 2
+    put_count = put_below header_words k 2 m part (omega arith) (omega (arith, h.words))
+
+    put_claims : (n : ℕ) → n ≤ length part → take n (drop header_words (put_mid header_words k m part)) ≡ take n part
+    put_claims n few =
+        let front = drop_at (take header_words m) (part ++ drop k (drop header_words m)) header_words (length-take-le header_words m (omega (arith, h.words))) in
+        rw front (take-append-le n part (drop k (drop header_words m)) few)
+
+    pub proves_told : (cs : List ℕ) → slice_index m 2 ≤ length part → take (slice_index m 2) part ≡ cs → estate_of (put_mid header_words k m part) ≡ with_claimed (estate_of m) cs
+    proves_told cs few is = rw (put_there, put_count, put_claims _ few, is) refl
+
+    pub claims_told : (n : ℕ) (cs : List ℕ) → n ≤ length part → take n part ≡ cs → estate_of (slice_set (put_mid header_words k m part) 2 n) ≡ with_claimed (estate_of m) cs
+    claims_told n cs few is =
+        let ws = put_mid header_words k m part in
+        let there = get_or-set_other ws 2 1 n 0 (omega arith) ∙ put_there in
+        let count = get_or-set_same ws 2 n 0 (omega (arith, length_put)) in
+        let rest = drop-set-lt header_words ws 2 n (omega arith) in
+        rw (there, count, rest, put_claims n few, is) refl

@@ -6,13 +6,13 @@ use Rattle.shares.specs.Laws.{TermsFor}
 use Rattle.register.specs.Rows.{Addition, Change, Unchanged}
 use Rattle.register.specs.declared.rows.Unfit.{Unfit}
 use Rattle.wire.specs.Answers.{answer_row, Sendable}
-use Rattle.wire.specs.Written.{Stands as Written}
+use Rattle.wire.specs.Written.{Stands as IsWritten}
 use Rattle.wire.specs.declared.refusals.TurnedAway.{TurnedAway}
 use Rattle.estate.specs.Answers.{Answer, number}
 use Rattle.estate.specs.Calls.{Call}
 use Rattle.desk.specs.Memory.{estate_of, Headed, Stands}
 use Rattle.desk.specs.Opening.{refusal}
-use Rattle.desk.specs.Calling.{Served, SameBounds}
+use Rattle.desk.specs.Calling.{Served, SameBounds, Told}
 use Rattle.desk.specs.declared.header.Header.{Header}
 
 -- what is read of the header
@@ -38,7 +38,7 @@ Grown n c ws new = (at : ℕ) × Addition n c at ws new
 unfoldable pub Altered : ℕ → ℕ → ℕ → List ℕ → List ℕ → Type 0
 Altered n i c ws new = (from to : ℕ) × Change n i c from to ws new
 
--- and as they were, for that does not fit
+-- or as they were, since that does not fit
 unfoldable pub Unaltered : ℕ → ℕ → List ℕ → List ℕ → Type 0
 Unaltered n i ws new = (why : Unfit) × Unchanged n i ws why × (new ≡ ws)
 
@@ -49,9 +49,10 @@ outcome (Err t) = refusal t
 
 -- What a call that is answered by a number, or turned away, leaves of memory m.
 unfoldable pub Does : Call → List ℕ → List ℕ → Result ℕ TurnedAway → Type 0
-Does c m new r = (Stands m → Served c m new (outcome r)) × IfErr r (λ _. new ≡ m) × SameBounds m new
+Does c m new r =
+    (Stands m → Served c m new (outcome r)) × Told c m new (outcome r) × IfErr r (λ _. new ≡ m) × SameBounds m new
 
 -- An answer was written at the start of lent bytes, and can be read back; or there was too little room for it.
 unfoldable pub Sends : Answer → List ℕ → List ℕ → Result ℕ TurnedAway → Type 0
-Sends a out new (Ok n) = Written (answer_row a) out new n × Sendable a
+Sends a out new (Ok n) = IsWritten (answer_row a) out new n × Sendable a
 Sends a out new (Err t) = length out < length (answer_row a)
