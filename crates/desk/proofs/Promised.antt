@@ -18,7 +18,7 @@ use Rattle.wire.specs.Answers.{answer_row}
 use Rattle.wire.proofs.AnswerRows.{one_answer}
 use Rattle.desk.specs.Memory.{layout, bytes_asked, limits_of, estate_of, rest_of, Fair, Stands, Lent}
 use Rattle.desk.specs.Calling.{Given, Served, Called}
-use Rattle.desk.specs.Promises.{Obeys, DesksRight, RefusalsKeep, OneEstate}
+use Rattle.desk.specs.Promises.{Obeys, DesksRight, RefusalsKeep, OneEstate, NewDesk, StaysDesk}
 use Rattle.desk.proofs.Words.{count_read, long_enough, limits_read, estate_read, rest_read}
 
 -- a desk stands where it was laid
@@ -30,6 +30,7 @@ module _ (l : Limits) (e : Estate) (rest : List ℕ) (f : Fair l e) where
       let r = rest_read l.creditors e rest f.few in
       record { fair = rw (n, k) f; laid = rw (n, k, r) refl }
 
+-- a call that is not turned away leaves an estate within the limits
 fair_changed : (l : Limits) (e : Estate) (c : Call) → (turned l e c == 0) ≡ true → Fair l e → Fair l (changed e c)
 fair_changed l e (claims c) t f =
     let fits : (c ≤ most_cents) × (length e.claimed < l.creditors) = (grind (arith, nat_tests), grind (arith, nat_tests)) in
@@ -77,6 +78,7 @@ one_given a b out sent (Ok n) g h =
 abbrev zeros : Memory → List ℕ
 zeros m = replicate (bytes_asked (limits_of m.words).creditors) 0
 
+-- a desk that stands asks for no more than its memory
 lent_enough : (m out : List ℕ) → Stands m → bytes_asked (limits_of m).creditors ≤ length out → Lent m out
 lent_enough m out s enough =
     let l = s.laid in
@@ -93,11 +95,13 @@ lent_enough m out s enough =
       bytes = enough;
     }
 
+-- what was done to memory, said of the estate that stood in it
 served_is : (l : Limits) (e : Estate) (rest : List ℕ) (c : Call) (m new : List ℕ) (a : Answer) → limits_of m ≡ l → estate_of m ≡ e → rest_of m ≡ rest → Served c m new a → (new ≡ layout l (after l e c) ++ rest) × (a ≡ answered l e c)
 served_is l e rest c m new a n t r v = rw (sym n, sym t, sym r) (v.memory, v.answer)
 
-kept : (l : Limits) (e : Estate) (c : Call) → 0 < turned l e c → after l e c ≡ e
-kept l e c h = let t : (turned l e c == 0) ≡ false = grind (arith, nat_tests) in rw t refl
+-- a call that is turned away leaves the estate
+after-turned : (l : Limits) (e : Estate) (c : Call) → 0 < turned l e c → after l e c ≡ e
+after-turned l e c h = let t : (turned l e c == 0) ≡ false = grind (arith, nat_tests) in rw t refl
 
 module _ (k : Desk) (o : Obeys k) where
   -- one call
@@ -143,7 +147,7 @@ refusals_keep k o l cs c few turned =
     let (m, opened) = o.opens l few in
     let (f, w) = left k o l _ new_estate (k.opened l) cs (fair_new l few) opened.2 in
     let g = goes_on k o l _ (ran l new_estate cs) (left_by k (k.opened l) cs) c f w in
-    let same = kept l (ran l new_estate cs) c turned in
+    let same = after-turned l (ran l new_estate cs) c turned in
     ap (λ ws. record { words = ws }) (rw same at g.0 ∙ sym w)
 
 pub one_estate : OneEstate
@@ -155,3 +159,13 @@ one_estate l k e f rest more fair also same =
     let t' = estate_read k.creditors f more also.few in
     let r' = rest_read k.creditors f more also.few in
     (sym n ∙ ap limits_of same ∙ n', sym t ∙ ap estate_of same ∙ t', sym r ∙ ap rest_of same ∙ r')
+
+pub new_desk : NewDesk
+unfolding NewDesk
+new_desk l few = fair_new l few
+
+pub stays_desk : StaysDesk
+unfolding StaysDesk
+stays_desk l e rest f = (stands l e rest f, λ c. fair_after l e c f)
+
+pub ruleset desks = (one_estate, new_desk, stays_desk)

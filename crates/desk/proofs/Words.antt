@@ -56,10 +56,6 @@ module _ (n : ℕ) (e : Estate) (rest : List ℕ) (few : length e.claimed ≤ n)
       let m = middle-zeros n in
       kept_long (replicate (2 * n) 0) e.claimed (omega arith) ∙ length-replicate {A = ℕ} (2 * n) 0
 
-  pub head : take header_words (layout (limited n) e ++ rest) ≡ header (limited n) e
-  unfolding layout
-  head = first (header (limited n) e) (register (limited n) e) rest _ _ length-header length-register
-
   pub body : take (2 * n) (drop header_words (layout (limited n) e ++ rest)) ≡ register (limited n) e
   unfolding layout
   body = second (header (limited n) e) (register (limited n) e) rest _ _ length-header length-register

@@ -1,5 +1,5 @@
 -- What a desk leaves in lent memory: a function of its limits and its estate. Assumes nothing.
-use Rattle.std.specs.Prelude.{◌≡◌, ℕ, ◌+◌, ◌*◌, ◌≤◌, List, ◌∷◌, ◌++◌, length, take, drop, replicate, slice_index}
+use Rattle.std.specs.Prelude.{◌≡◌, ℕ, ◌+◌, ◌-◌, ◌*◌, ◌≤◌, List, ◌∷◌, ◌++◌, length, take, drop, replicate, slice_index}
 use Rattle.estate.specs.Limits.{Limits, most_creditors, most_there}
 use Rattle.estate.specs.Estates.{Estate, new_estate, with_there, with_claimed, counted, Within}
 use Rattle.register.specs.Rows.{kept}
@@ -9,7 +9,7 @@ abbrev pub header_words : ℕ
 header_words = 64
 
 unfoldable pub spare : List ℕ
-spare = replicate 61 0
+spare = replicate (header_words - 3) 0
 
 unfoldable pub header : Limits → Estate → List ℕ
 header l e = l.creditors ∷ e.there ∷ length e.claimed ∷ spare
@@ -41,7 +41,7 @@ estate_of m = with_claimed (with_there new_estate (slice_index m 1)) (take (slic
 abbrev pub rest_of : List ℕ → List ℕ
 rest_of m = drop (words_asked (slice_index m 0)) m
 
--- the estate of a desk with these limits
+-- a desk with these limits may have this estate
 pub record Fair (l : Limits) (e : Estate) : Type 0 where
   pub limit : l.creditors ≤ most_creditors
   pub few : length (counted e) ≤ l.creditors
@@ -59,7 +59,7 @@ pub record Headed (m : List ℕ) : Type 0 where
   pub few : slice_index m 2 ≤ slice_index m 0
   pub words : words_asked (slice_index m 0) ≤ length m
 
--- And as many bytes for an answer.
+-- And there are as many bytes for an answer. Where a desk stands, these are all that may be wanting.
 pub record Lent (m out : List ℕ) : Type 0 where
   pub headed : Headed m
   pub bytes : bytes_asked (slice_index m 0) ≤ length out

@@ -13,7 +13,7 @@ use Rattle.desk.specs.declared.opening.Loan.{Loan}
 abbrev pub refusal : TurnedAway → Answer
 refusal t = refused (refusal_number t.why) t.place
 
--- how much a desk for n creditors asks for; none may have more than so many
+-- how much a desk for n creditors asks for; for more than there may be there is none
 abbrev pub IsAsked : ℕ → Result Loan TurnedAway → Type 0
 IsAsked n (Ok a) = (n ≤ most_creditors) × (a.words ≡ words_asked n) × (a.bytes ≡ bytes_asked n)
 IsAsked n (Err t) = (most_creditors < n) × (refusal t ≡ refused not_lent 0)

@@ -12,8 +12,8 @@ use Rattle.desk.specs.Memory.{layout, limits_of, estate_of, rest_of, Fair, Stand
 use Rattle.desk.specs.Opening.{Opened}
 use Rattle.desk.specs.Calling.{Given, Called}
 
--- It leaves and answers what these contracts allow: when it is opened in some memory, and with each call, whatever bytes are
--- lent for the answer, if these are enough.
+-- It leaves and answers what these contracts allow: when it is opened in some memory, and with each call, also one that no
+-- bytes hold, whatever bytes are lent for the answer, if these are enough.
 pub record Obeys (k : Desk) : Type 0 where
   pub opens : (l : Limits) → l.creditors ≤ most_creditors → (m : List ℕ) × Opened l.creditors m (k.opened l).words (Ok tt)
   pub calls : (m : Memory) (c : Call) (out : List ℕ) → Stands m.words → Lent m.words out → (sent : List ℕ) × (r : Result ℕ TurnedAway) × Called c m.words (k.next m c).words out sent r × Given (k.says m c) out sent r
@@ -42,3 +42,12 @@ DescribedObeys = Obeys described
 abbrev pub OneEstate : Type 0
 OneEstate =
     (l k : Limits) (e f : Estate) (rest more : List ℕ) → Fair l e → Fair k f → layout l e ++ rest ≡ layout k f ++ more → (l ≡ k) × (e ≡ f) × (rest ≡ more)
+
+-- a new estate is one that a desk may have
+unfoldable pub NewDesk : Type 0
+NewDesk = (l : Limits) → l.creditors ≤ most_creditors → Fair l new_estate
+
+-- where such a desk is laid one stands, and the estate after each call is again such
+unfoldable pub StaysDesk : Type 0
+StaysDesk =
+    (l : Limits) (e : Estate) (rest : List ℕ) → Fair l e → Stands (layout l e ++ rest) × ((c : Call) → Fair l (after l e c))

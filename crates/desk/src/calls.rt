@@ -1,6 +1,6 @@
 // A call on a desk, read, checked, done and answered.
 ghost use Rattle.std.specs.Prelude.{◌≡◌, ◌≤◌, length, IfSome, IfNone};
-ghost use Rattle.estate.specs.Refusals.{checks_alone, first_refusal, place};
+ghost use Rattle.estate.specs.Refusals.{checks_alone, first_refusal, place, too_large};
 ghost use Rattle.wire.specs.Meaning.{heard, meaning, told};
 ghost use Rattle.wire.specs.Reading.{read};
 ghost use Rattle.desk.specs.Calling.{Called};
@@ -15,7 +15,7 @@ use shares::Shares;
 use wire::{Answer, Call, Garbled, Numbers, Place, Refusal, TurnedAway};
 
 // Does what the call in these bytes asks for, and writes its answer at the start of the bytes that are lent for it; how long
-// that is. A call that is turned away is answered by nothing else, and changes nothing.
+// that is. For a call that is turned away nothing is written, and nothing changes.
 #[tactic(auto, using(crate::proofs::Checking::heard, crate::proofs::Promised::desks_right, crate::proofs::Promised::refusals_keep, crate::proofs::Described::described_obeys))]
 pub fn call(mem: &mut [u64], bytes: &[u8], out: &mut [u8]) -> Result<usize, TurnedAway>
     ensures called { Called (read bytes.now) mem.old mem.new out.old out.new result }
@@ -48,7 +48,7 @@ fn answer(
 // The call, if the cents in it are not too many.
 fn moderate(call: Call) -> Option<Call>
     ensures some { IfSome result (λ c. (c ≡ call) × (first_refusal (checks_alone (meaning call)) ≡ 0)) }
-    ensures none { IfNone result (first_refusal (checks_alone (meaning call)) ≡ 2) }
+    ensures none { IfNone result (first_refusal (checks_alone (meaning call)) ≡ too_large) }
 {
     let cents = match call {
         Call::Claim(cents) | Call::Prove(_, cents) | Call::Come(cents) => cents,
@@ -59,7 +59,7 @@ fn moderate(call: Call) -> Option<Call>
 
 // The place of the cents among the numbers of a call.
 fn cents_place(call: Call) -> Place
-    ensures { result ≡ place (meaning call) 2 }
+    ensures { result ≡ place (meaning call) too_large }
 {
     match call {
         Call::Prove(..) => 1,

@@ -16,7 +16,7 @@ pub(crate) const THERE: usize = 1;
 
 pub(crate) const COUNT: usize = 2;
 
-// What it says.
+// The numbers of the header.
 #[derive(Clone, Copy, Debug)]
 pub(crate) struct Header {
     pub(crate) limit: usize,

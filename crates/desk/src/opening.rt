@@ -1,13 +1,13 @@
 // How much a desk asks for, and a desk opened in lent memory.
 ghost use Rattle.std.specs.Prelude.{◌≡◌, ◌+◌, ◌*◌, ◌≤◌, length, replicate, IfOk};
 ghost use Rattle.desk.specs.Opening.{IsAsked, Opened};
-ghost use Rattle.desk.specs.Promises.{OneEstate};
+ghost use Rattle.desk.specs.Promises.{OneEstate, NewDesk, StaysDesk};
 
 use crate::header::{HEADER, LIMIT};
 use estate::MOST_CREDITORS;
 use wire::{Place, Refusal, TurnedAway};
 
-// How much who opens a desk has to lend.
+// What is to be lent to a desk.
 #[derive(Clone, Copy, Debug, PartialEq, Eq)]
 pub struct Loan {
     // words of memory, with the desk for as long as it is used
@@ -16,7 +16,7 @@ pub struct Loan {
     pub bytes: usize,
 }
 
-// How much a desk for so many creditors asks for.
+// How much a desk for so many creditors asks for: at most 64 bytes of memory for each, and 4,096 more.
 pub fn asked(limit: usize) -> Result<Loan, TurnedAway>
     ensures asked { IsAsked limit result }
     ensures few { IfOk result (λ a. 8 * a.words ≤ 64 * limit + 4096) }
@@ -31,10 +31,12 @@ pub fn asked(limit: usize) -> Result<Loan, TurnedAway>
 }
 
 // Opens a desk for so many creditors in lent memory, whatever that held.
-#[tactic(auto, using(crate::proofs::Words::opened, crate::proofs::Promised::one_estate))]
+#[tactic(auto, using(crate::proofs::Words::opened, crate::proofs::Promised::desks))]
 pub fn open(mem: &mut [u64], limit: usize) -> Result<(), TurnedAway>
     ensures opened { Opened limit mem.old mem.new result }
     ensures one_estate { OneEstate }
+    ensures new_desk { NewDesk }
+    ensures stays_desk { StaysDesk }
 {
     let asked = asked(limit)?;
     if mem.len() < asked.words {
