@@ -33,18 +33,18 @@ use Rattle.desk.proofs.Checking.{answered_alone, told_of}
 use Rattle.desk.proofs.Promised.{fair_after}
 
 -- what turns a call away has a name
-two_checks : (a b : Bool) (v w : Refusal) → (first_refusal (check a (refusal_number v) ∷ check b (refusal_number w) ∷ []) == 0) ≡ false → (why : Refusal) × (refusal_number why ≡ first_refusal (check a (refusal_number v) ∷ check b (refusal_number w) ∷ []))
-two_checks false b v w h = (v, refl)
-two_checks true false v w h = (w, refl)
-two_checks true true v w h = absurd (false≢true (sym h))
+refusal_of_two : (a b : Bool) (v w : Refusal) → (first_refusal (check a (refusal_number v) ∷ check b (refusal_number w) ∷ []) == 0) ≡ false → (why : Refusal) × (refusal_number why ≡ first_refusal (check a (refusal_number v) ∷ check b (refusal_number w) ∷ []))
+refusal_of_two false b v w h = (v, refl)
+refusal_of_two true false v w h = (w, refl)
+refusal_of_two true true v w h = absurd (false≢true (sym h))
 
-named : (l : Limits) (e : Estate) (c : Call) → (turned l e c == 0) ≡ false → (why : Refusal) × (refusal_number why ≡ turned l e c)
-named l e (claims c) h = two_checks _ _ TooLarge NoRoom h
-named l e (proves i c) h = two_checks _ _ TooLarge NotThere h
-named l e (comes x) h = two_checks _ _ TooLarge NoRoom h
-named l e shares h = absurd (false≢true (sym h))
-named l e cents h = absurd (false≢true (sym h))
-named l e (garbled n) h = (Unreadable, refl)
+refusal_named : (l : Limits) (e : Estate) (c : Call) → (turned l e c == 0) ≡ false → (why : Refusal) × (refusal_number why ≡ turned l e c)
+refusal_named l e (claims c) h = refusal_of_two _ _ TooLarge NoRoom h
+refusal_named l e (proves i c) h = refusal_of_two _ _ TooLarge NotThere h
+refusal_named l e (comes x) h = refusal_of_two _ _ TooLarge NoRoom h
+refusal_named l e shares h = absurd (false≢true (sym h))
+refusal_named l e cents h = absurd (false≢true (sym h))
+refusal_named l e (garbled n) h = (Unreadable, refl)
 
 -- an answer that can be sent for so many claims
 pub record Fits (n : ℕ) (a : Answer) : Type 0 where
@@ -109,7 +109,7 @@ module _ (l : Limits) (e : Estate) (f : Fair l e) where
       let v = says_fits c t in
       (row ++ drop (length row) out, Ok (length row), (record { long = refl; room = omega (arith, v.room); holds = refl }, v.sendable, v.answers), tt)
   given c out false t room =
-      let (why, is) = named l e c t in
+      let (why, is) = refusal_named l e c t in
       (out, Err (record { why = why; place = place c (turned l e c) }), (rw is refl, refl), t)
 
 in_err : (r : Result ℕ TurnedAway) (P Q : Type 0) → IfErr r (λ _. P) → (P → Q) → IfErr r (λ _. Q)

@@ -11,13 +11,13 @@ use Rattle.estate.specs.Calls.{Call, claims, proves, comes}
 use Rattle.estate.specs.Changes.{changed}
 use Rattle.estate.specs.Limits.{most_cents, most_there}
 use Rattle.estate.specs.Right.{says}
-use Rattle.register.specs.Rows.{middle, Unchanged}
+use Rattle.register.specs.Rows.{middle, Addition, Unchanged}
 use Rattle.register.specs.declared.rows.Unfit.{Unfit}
 use Rattle.register.specs.declared.rows.Unfit.TheVariants as unfit
 use Rattle.wire.specs.declared.refusals.TurnedAway.{TurnedAway}
 use Rattle.wire.specs.declared.refusals.Refusal.TheVariants.{NoRoom, NotThere}
 use Rattle.desk.specs.Memory.{header_words, register, words_asked, layout, limits_of, estate_of, rest_of, Headed, Stands}
-use Rattle.desk.specs.Steps.{Grown, Altered, Unaltered, Does}
+use Rattle.desk.specs.Steps.{Altered, Unaltered, Does}
 use Rattle.desk.specs.Calling.{Served, SameBounds, AsTold}
 use Rattle.desk.proofs.Words.{claims_counted, put_below, comes_told, claims_told, proves_told, came_added, came_changed, register_added, register_changed, register_ordered, comes_writes, claims_writes, proves_writes, body}
 
@@ -48,11 +48,11 @@ module _ (m : List ℕ) (there : ℕ) (is_there : there ≡ slice_index m 1) (he
   come_done x few room =
       let t : turned (limits_of m) (estate_of m) (comes x) ≡ 0 = grind (arith, nat_tests) in
       let n = ap number (ap (λ t. t + x) is_there) in (
-    λ s. served_by (comes x) m _ _ t (rw is_there (ap (λ ws. slice_set ws 1 (slice_index m 1 + x)) s.laid ∙ comes_writes _ (estate_of m) (rest_of m) (slice_index m 1 + x))) n,
-    told_by (comes x) m (slice_set m 1 (there + x)) _ t (rw is_there (comes_told m headed (slice_index m 1 + x))) n,
-    tt,
-    bounded m _ (grind (arith, places)) (drop-set-lt _ m 1 _ (omega arith)),
-  )
+        λ s. served_by (comes x) m _ _ t (rw is_there (ap (λ ws. slice_set ws 1 (slice_index m 1 + x)) s.laid ∙ comes_writes _ (estate_of m) (rest_of m) (slice_index m 1 + x))) n,
+        told_by (comes x) m (slice_set m 1 (there + x)) _ t (rw is_there (comes_told m headed (slice_index m 1 + x))) n,
+        tt,
+        bounded m _ (grind (arith, places)) (drop-set-lt _ m 1 _ (omega arith)),
+      )
 
   pub come_full : (x : ℕ) (t : TurnedAway) → x ≤ most_cents → most_there < there + x → t ≡ record { why = NoRoom; place = 0 } → Does (comes x) m m (Err t)
   unfolding Does
@@ -97,10 +97,9 @@ module _ (m : List ℕ) (limit count k : ℕ) (is_limit : limit ≡ slice_index 
       let room : header_words ≤ length m = omega (arith, headed.words) in
       bounded m _ (put_below header_words k 0 m part (omega arith) room) (drop-put_mid header_words k m part _ (omega (arith, span, is_limit)) room (long ∙ part_long))
 
-  pub claim_done : (c : ℕ) (part : List ℕ) → Grown count c part0 part → c ≤ most_cents → Does (claims c) m (slice_set (put_mid header_words k m part) 2 (count + 1)) (Ok count)
-  unfolding says Does Grown
-  claim_done c part g few =
-      let a = g.1 in
+  pub claim_done : (c at : ℕ) (part : List ℕ) → Addition count c at part0 part → c ≤ most_cents → Does (claims c) m (slice_set (put_mid header_words k m part) 2 (count + 1)) (Ok count)
+  unfolding says Does
+  claim_done c at part a few =
       let n = count_is in
       let room : count < limit = omega (arith, a.room, part_middle) in
       let same = a.inserted.carried.long ∙ length-set part0 count c in
@@ -108,14 +107,14 @@ module _ (m : List ℕ) (limit count k : ℕ) (is_limit : limit ≡ slice_index 
       let t : turned (limits_of m) (estate_of m) (claims c) ≡ 0 = grind (arith, nat_tests, is_limit) in (
         λ s.
             let cs = (estate_of m).claimed ++ c ∷ [] in
-            let new = register_added _ (estate_of m) s.fair.few c g.0 part (rw (part_is s, sym n) at a) in
+            let new = register_added _ (estate_of m) s.fair.few c at part (rw (part_is s, sym n) at a) in
             let long : count + 1 ≡ length cs = omega (arith, length_push (estate_of m).claimed c) in
             let w = claims_writes _ (estate_of m) (rest_of m) s.fair.few cs part (omega (arith, is_limit)) new in
             let k = span in
             let l = is_limit in
             let d = s.laid in
             served_by (claims c) m _ _ t (cc) (ap number (sym n)),
-        told_by (claims c) m (slice_set (put_mid header_words k m part) 2 (count + 1)) _ t (claims_told m headed k part (count + 1) _ (omega (arith, same, part_long)) (came_added count c g.0 part0 part a ∙ ap (λ cs. cs ++ c ∷ []) came)) (ap number (sym n)),
+        told_by (claims c) m (slice_set (put_mid header_words k m part) 2 (count + 1)) _ t (claims_told m headed k part (count + 1) _ (omega (arith, same, part_long)) (came_added count c at part0 part a ∙ ap (λ cs. cs ++ c ∷ []) came)) (ap number (sym n)),
         tt,
         bounded m _ (grind (arith, places, b.limit)) (drop-set-lt (words_asked (slice_index m 0)) (put_mid header_words k m part) 2 _ (omega arith) ∙ rw b.limit at b.rest),
       )

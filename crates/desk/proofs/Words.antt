@@ -11,7 +11,7 @@ use Rattle.register.specs.Rows.{middle, kept, Addition, Change, Unchanged}
 use Rattle.register.specs.declared.rows.Unfit.TheVariants.{OutOfOrder}
 use Rattle.register.proofs.Keeping.{kept_long, adds, changes, never_out_of_order}
 use Rattle.estate.proofs.Ordered.{length-sorted}
-use Rattle.desk.specs.Memory.{header_words, spare, header, register, limited, layout, words_asked, limits_of, estate_of, rest_of, Headed}
+use Rattle.desk.specs.Memory.{header_words, spare, header, register, limits_for, layout, words_asked, limits_of, estate_of, rest_of, Headed}
 
 kept_none : (ws : List ℕ) → kept ws [] ≡ ws
 unfolding sorted
@@ -21,7 +21,7 @@ zeros : (n : ℕ) → replicate (words_asked n) 0 ≡ 0 ∷ 0 ∷ 0 ∷ (spare +
 unfolding spare
 zeros n = sym (replicate-append-replicate {A = ℕ} 64 (2 * n) 0)
 
-pub opened : (n w : ℕ) (ws m : List ℕ) → w ≡ words_asked n → w ≤ length m → ws ≡ replicate (length (take w m)) 0 → slice_set (ws ++ drop w m) 0 n ≡ layout (limited n) new_estate ++ drop (words_asked n) m
+pub opened : (n w : ℕ) (ws m : List ℕ) → w ≡ words_asked n → w ≤ length m → ws ≡ replicate (length (take w m)) 0 → slice_set (ws ++ drop w m) 0 n ≡ layout (limits_for n) new_estate ++ drop (words_asked n) m
 unfolding layout header register
 opened n w ws m e room z =
     let k : length (take w m) ≡ w = grind (arith, places) in
@@ -29,59 +29,59 @@ opened n w ws m e room z =
 
 -- three lists, the first two of known lengths
 module _ (xs ys zs : List ℕ) (a k : ℕ) (one : length xs ≡ a) (two : length ys ≡ k) where
-  first : take a ((xs ++ ys) ++ zs) ≡ xs
-  first = grind (arith, common_steps)
+  take-first : take a ((xs ++ ys) ++ zs) ≡ xs
+  take-first = grind (arith, common_steps)
 
-  second : take k (drop a ((xs ++ ys) ++ zs)) ≡ ys
-  second = grind (arith, common_steps)
+  take-drop-second : take k (drop a ((xs ++ ys) ++ zs)) ≡ ys
+  take-drop-second = grind (arith, common_steps)
 
-  last : drop k (drop a ((xs ++ ys) ++ zs)) ≡ zs
-  last = grind (arith, common_steps)
+  drop-drop-third : drop k (drop a ((xs ++ ys) ++ zs)) ≡ zs
+  drop-drop-third = grind (arith, common_steps)
 
-  third : drop (a + k) ((xs ++ ys) ++ zs) ≡ zs
-  third = grind (arith, common_steps)
+  drop-third : drop (a + k) ((xs ++ ys) ++ zs) ≡ zs
+  drop-third = grind (arith, common_steps)
 
 middle-zeros : (n : ℕ) → middle (replicate (2 * n) 0) ≡ n
 middle-zeros n = let z = length-replicate {A = ℕ} (2 * n) 0 in omega arith
 
 -- a desk with room for n claims
 module _ (n : ℕ) (e : Estate) (rest : List ℕ) (few : length e.claimed ≤ n) where
-  length-header : length (header (limited n) e) ≡ header_words
+  length-header : length (header (limits_for n) e) ≡ header_words
   unfolding header spare
   length-header = refl
 
-  length-register : length (register (limited n) e) ≡ 2 * n
+  length-register : length (register (limits_for n) e) ≡ 2 * n
   unfolding register
   length-register =
       let m = middle-zeros n in
       kept_long (replicate (2 * n) 0) e.claimed (omega arith) ∙ length-replicate {A = ℕ} (2 * n) 0
 
-  pub body : take (2 * n) (drop header_words (layout (limited n) e ++ rest)) ≡ register (limited n) e
+  pub body : take (2 * n) (drop header_words (layout (limits_for n) e ++ rest)) ≡ register (limits_for n) e
   unfolding layout
-  body = second (header (limited n) e) (register (limited n) e) rest _ _ length-header length-register
+  body = take-drop-second (header (limits_for n) e) (register (limits_for n) e) rest _ _ length-header length-register
 
-  pub behind : drop (words_asked n) (layout (limited n) e ++ rest) ≡ rest
+  pub behind : drop (words_asked n) (layout (limits_for n) e ++ rest) ≡ rest
   unfolding layout
-  behind = third (header (limited n) e) (register (limited n) e) rest _ _ length-header length-register
+  behind = drop-third (header (limits_for n) e) (register (limits_for n) e) rest _ _ length-header length-register
 
-  pub put : (part : List ℕ) → put_mid header_words (2 * n) (layout (limited n) e ++ rest) part ≡ header (limited n) e ++ (part ++ rest)
+  pub put : (part : List ℕ) → put_mid header_words (2 * n) (layout (limits_for n) e ++ rest) part ≡ header (limits_for n) e ++ (part ++ rest)
   unfolding layout
   put part =
-      let front = first (header (limited n) e) (register (limited n) e) rest _ _ length-header length-register in
-      let back = last (header (limited n) e) (register (limited n) e) rest _ _ length-header length-register in
+      let front = take-first (header (limits_for n) e) (register (limits_for n) e) rest _ _ length-header length-register in
+      let back = drop-drop-third (header (limits_for n) e) (register (limits_for n) e) rest _ _ length-header length-register in
       rw (front, back) refl
 
-  laid : header (limited n) e ++ (register (limited n) e ++ rest) ≡ layout (limited n) e ++ rest
+  laid : header (limits_for n) e ++ (register (limits_for n) e ++ rest) ≡ layout (limits_for n) e ++ rest
   unfolding layout
-  laid = sym (append_assoc (header (limited n) e) (register (limited n) e) rest)
+  laid = sym (append_assoc (header (limits_for n) e) (register (limits_for n) e) rest)
 
 -- a register begins with the claims as they came, and its second half with those in order
 module _ (n : ℕ) (e : Estate) (few : length e.claimed ≤ n) where
-  as_they_came : (rest : List ℕ) → take (length e.claimed) (register (limited n) e ++ rest) ≡ e.claimed
+  as_they_came : (rest : List ℕ) → take (length e.claimed) (register (limits_for n) e ++ rest) ≡ e.claimed
   unfolding register
   as_they_came rest = grind (arith, common_steps)
 
-  in_order : (rest : List ℕ) → take (length e.claimed) (drop n (register (limited n) e ++ rest)) ≡ sorted e.claimed
+  in_order : (rest : List ℕ) → take (length e.claimed) (drop n (register (limits_for n) e ++ rest)) ≡ sorted e.claimed
   unfolding register
   in_order rest =
       let m = middle-zeros n in
@@ -91,41 +91,41 @@ module _ (n : ℕ) (e : Estate) (few : length e.claimed ≤ n) where
 
 -- what is read
 module _ (n : ℕ) (e : Estate) (rest : List ℕ) (few : length e.claimed ≤ n) where
-  registered : drop header_words (layout (limited n) e ++ rest) ≡ register (limited n) e ++ rest
+  registered : drop header_words (layout (limits_for n) e ++ rest) ≡ register (limits_for n) e ++ rest
   unfolding layout
-  registered = rw (append_assoc (header (limited n) e) (register (limited n) e) rest) (drop_at (header (limited n) e) (register (limited n) e ++ rest) header_words (length-header n e rest few))
+  registered = rw (append_assoc (header (limits_for n) e) (register (limits_for n) e) rest) (drop_at (header (limits_for n) e) (register (limits_for n) e ++ rest) header_words (length-header n e rest few))
 
-  limit_read : slice_index (layout (limited n) e ++ rest) 0 ≡ n
+  limit_read : slice_index (layout (limits_for n) e ++ rest) 0 ≡ n
   unfolding layout header
   limit_read = refl
 
-  there_read : slice_index (layout (limited n) e ++ rest) 1 ≡ e.there
+  there_read : slice_index (layout (limits_for n) e ++ rest) 1 ≡ e.there
   unfolding layout header
   there_read = refl
 
-  pub count_read : slice_index (layout (limited n) e ++ rest) 2 ≡ length e.claimed
+  pub count_read : slice_index (layout (limits_for n) e ++ rest) 2 ≡ length e.claimed
   unfolding layout header
   count_read = refl
 
-  pub estate_read : estate_of (layout (limited n) e ++ rest) ≡ e
+  pub estate_read : estate_of (layout (limits_for n) e ++ rest) ≡ e
   estate_read = rw (there_read, count_read, registered, as_they_came n e few rest) refl
 
-  pub limits_read : limits_of (layout (limited n) e ++ rest) ≡ limited n
+  pub limits_read : limits_of (layout (limits_for n) e ++ rest) ≡ limits_for n
   limits_read = rw limit_read refl
 
-  pub rest_read : rest_of (layout (limited n) e ++ rest) ≡ rest
+  pub rest_read : rest_of (layout (limits_for n) e ++ rest) ≡ rest
   rest_read = rw limit_read (behind n e rest few)
 
-  pub long_enough : words_asked n ≤ length (layout (limited n) e ++ rest)
+  pub long_enough : words_asked n ≤ length (layout (limits_for n) e ++ rest)
   unfolding layout
   long_enough =
       omega (arith, length-append {A = ℕ}, length-header n e rest few, length-register n e rest few)
 
-  pub order_read : take (length e.claimed) (drop (header_words + n) (layout (limited n) e ++ rest)) ≡ sorted e.claimed
+  pub order_read : take (length e.claimed) (drop (header_words + n) (layout (limits_for n) e ++ rest)) ≡ sorted e.claimed
   order_read =
       let r = registered in
       let o = in_order n e few rest in
-      let d = drop-drop n header_words (layout (limited n) e ++ rest) in
+      let d = drop-drop n header_words (layout (limits_for n) e ++ rest) in
       cc
 
 -- a register after a claim, and after a change
@@ -133,41 +133,41 @@ module _ (n : ℕ) (e : Estate) (few : length e.claimed ≤ n) where
   enough : length e.claimed ≤ middle (replicate (2 * n) 0)
   enough = let m = middle-zeros n in omega arith
 
-  pub register_added : (c at : ℕ) (new : List ℕ) → Addition (length e.claimed) c at (register (limited n) e) new → new ≡ register (limited n) (with_claimed e (e.claimed ++ c ∷ []))
+  pub register_added : (c at : ℕ) (new : List ℕ) → Addition (length e.claimed) c at (register (limits_for n) e) new → new ≡ register (limits_for n) (with_claimed e (e.claimed ++ c ∷ []))
   unfolding register
   register_added c at new a = adds c at (replicate (2 * n) 0) e.claimed new enough a
 
-  pub register_changed : (i c from to : ℕ) (new : List ℕ) → Change (length e.claimed) i c from to (register (limited n) e) new → new ≡ register (limited n) (with_claimed e (slice_set e.claimed i c))
+  pub register_changed : (i c from to : ℕ) (new : List ℕ) → Change (length e.claimed) i c from to (register (limits_for n) e) new → new ≡ register (limits_for n) (with_claimed e (slice_set e.claimed i c))
   unfolding register
   register_changed i c from to new a = changes i c from to (replicate (2 * n) 0) e.claimed new enough a
 
-  pub register_ordered : (i : ℕ) → Unchanged (length e.claimed) i (register (limited n) e) OutOfOrder → ⊥
+  pub register_ordered : (i : ℕ) → Unchanged (length e.claimed) i (register (limits_for n) e) OutOfOrder → ⊥
   unfolding register
   register_ordered i u = never_out_of_order i (replicate (2 * n) 0) e.claimed enough u
 
 -- what each call writes
 module _ (n : ℕ) (e : Estate) (rest : List ℕ) where
-  pub comes_writes : (x : ℕ) → slice_set (layout (limited n) e ++ rest) 1 x ≡ layout (limited n) (with_there e x) ++ rest
+  pub comes_writes : (x : ℕ) → slice_set (layout (limits_for n) e ++ rest) 1 x ≡ layout (limits_for n) (with_there e x) ++ rest
   unfolding layout header register
   comes_writes x = refl
 
-  counted_again : (cs xs : List ℕ) → slice_set (header (limited n) e ++ xs) 2 (length cs) ≡ header (limited n) (with_claimed e cs) ++ xs
+  counted_again : (cs xs : List ℕ) → slice_set (header (limits_for n) e ++ xs) 2 (length cs) ≡ header (limits_for n) (with_claimed e cs) ++ xs
   unfolding header
   counted_again cs xs = refl
 
-  same_count : (cs : List ℕ) → length cs ≡ length e.claimed → header (limited n) e ≡ header (limited n) (with_claimed e cs)
+  same_count : (cs : List ℕ) → length cs ≡ length e.claimed → header (limits_for n) e ≡ header (limits_for n) (with_claimed e cs)
   unfolding header
   same_count cs h = rw h refl
 
-  module _ (few : length e.claimed ≤ n) (cs part : List ℕ) (some : length cs ≤ n) (new : part ≡ register (limited n) (with_claimed e cs)) where
-    pub claims_writes : slice_set (put_mid header_words (2 * n) (layout (limited n) e ++ rest) part) 2 (length cs) ≡ layout (limited n) (with_claimed e cs) ++ rest
+  module _ (few : length e.claimed ≤ n) (cs part : List ℕ) (some : length cs ≤ n) (new : part ≡ register (limits_for n) (with_claimed e cs)) where
+    pub claims_writes : slice_set (put_mid header_words (2 * n) (layout (limits_for n) e ++ rest) part) 2 (length cs) ≡ layout (limits_for n) (with_claimed e cs) ++ rest
     claims_writes =
         let p = put n e rest few part in
         let k = counted_again cs (part ++ rest) in
         let l = laid n (with_claimed e cs) rest some in
         cc
 
-    pub proves_writes : length cs ≡ length e.claimed → put_mid header_words (2 * n) (layout (limited n) e ++ rest) part ≡ layout (limited n) (with_claimed e cs) ++ rest
+    pub proves_writes : length cs ≡ length e.claimed → put_mid header_words (2 * n) (layout (limits_for n) e ++ rest) part ≡ layout (limits_for n) (with_claimed e cs) ++ rest
     proves_writes long =
         let p = put n e rest few part in
         let k = same_count cs long in
@@ -181,8 +181,8 @@ put_below a k i xs ys less room = grind (arith, places)
 same_front : (n : ℕ) (xs ys : List ℕ) → n ≤ length xs → length xs ≡ length ys → ((k : ℕ) → k < n → slice_index xs k ≡ slice_index ys k) → take n xs ≡ take n ys
 same_front n xs ys few long same =
     ext_get_or 0 _ _ (grind (arith, places)) (λ k h.
-        let at = same k (omega (arith, h, length-take n xs)) in
-        grind (arith, places))
+    let at = same k (omega (arith, h, length-take n xs)) in
+    grind (arith, places))
 
 -- of any register, the claims as they came
 pub came_added : (n c at : ℕ) (ws new : List ℕ) → Addition n c at ws new → take (n + 1) new ≡ take n ws ++ c ∷ []

@@ -28,12 +28,12 @@ words_asked n = header_words + 2 * n
 abbrev pub bytes_asked : ℕ → ℕ
 bytes_asked n = 24 + 8 * n
 
-abbrev pub limited : ℕ → Limits
-limited n = record { creditors = n }
+abbrev pub limits_for : ℕ → Limits
+limits_for n = record { creditors = n }
 
 -- what memory tells of limits, of an estate and of what lies behind, whatever it holds
 abbrev pub limits_of : List ℕ → Limits
-limits_of m = limited (slice_index m 0)
+limits_of m = limits_for (slice_index m 0)
 
 abbrev pub estate_of : List ℕ → Estate
 estate_of m = with_claimed (with_there new_estate (slice_index m 1)) (take (slice_index m 2) (drop header_words m))

@@ -6,7 +6,7 @@ use Rattle.estate.specs.Limits.{most_creditors}
 use Rattle.estate.specs.Refusals.{not_lent}
 use Rattle.wire.specs.Meaning.{refusal_number}
 use Rattle.wire.specs.declared.refusals.TurnedAway.{TurnedAway}
-use Rattle.desk.specs.Memory.{layout, limited, words_asked, bytes_asked}
+use Rattle.desk.specs.Memory.{layout, limits_for, words_asked, bytes_asked}
 use Rattle.desk.specs.declared.opening.Loan.{Loan}
 
 -- what is turned away, as an answer
@@ -27,5 +27,5 @@ Unopened n m a =
 -- What opening leaves: a desk of nothing, and behind it what lay there; or nothing is changed.
 abbrev pub Opened : ℕ → List ℕ → List ℕ → Result (Unit {0}) TurnedAway → Type 0
 Opened n m new (Ok _) =
-    (n ≤ most_creditors) × (words_asked n ≤ length m) × (new ≡ layout (limited n) new_estate ++ drop (words_asked n) m)
+    (n ≤ most_creditors) × (words_asked n ≤ length m) × (new ≡ layout (limits_for n) new_estate ++ drop (words_asked n) m)
 Opened n m new (Err t) = Unopened n m (refusal t) × (new ≡ m)

@@ -27,8 +27,8 @@ abbrev pub RefusalsKeep : Type 0
 RefusalsKeep = (k : Desk) → Obeys k → RefusalKeeps k
 
 -- the desk that the definitions describe
-abbrev pub described : Desk
-described = record {
+abbrev pub described_desk : Desk
+described_desk = record {
   opened = λ l. record { words = layout l new_estate };
   next = λ m c. record { words = layout (limits_of m.words) (after (limits_of m.words) (estate_of m.words) c) ++ rest_of m.words };
   says = λ m c. answered (limits_of m.words) (estate_of m.words) c;
@@ -36,7 +36,7 @@ described = record {
 
 -- is one that does as the contracts say
 abbrev pub DescribedObeys : Type 0
-DescribedObeys = Obeys described
+DescribedObeys = Obeys described_desk
 
 -- in the same memory stands one estate, with the same limits and the same words behind it
 abbrev pub OneEstate : Type 0

@@ -3,7 +3,7 @@ use Rattle.std.specs.Prelude.{◌≡◌, ℕ, ◌<◌, List, length, Ok, Err, Re
 use Rattle.level.specs.declared.closed.Terms.{Terms}
 use Rattle.shares.specs.declared.written.Shares.{Shares}
 use Rattle.shares.specs.Laws.{TermsFor}
-use Rattle.register.specs.Rows.{Addition, Change, Unchanged}
+use Rattle.register.specs.Rows.{Change, Unchanged}
 use Rattle.register.specs.declared.rows.Unfit.{Unfit}
 use Rattle.wire.specs.Answers.{answer_row, Sendable}
 use Rattle.wire.specs.Written.{Stands as IsWritten}
@@ -30,11 +30,7 @@ Termed m t = Stands m → (ks : List ℕ) × TermsFor (estate_of m) ks t
 unfoldable pub Parted : List ℕ → Shares → Type 0
 Parted m s = Termed m s.terms × (s.claims.now ≡ (estate_of m).claimed)
 
--- the words ws of a register of n claims have become new: with one more claim
-unfoldable pub Grown : ℕ → ℕ → List ℕ → List ℕ → Type 0
-Grown n c ws new = (at : ℕ) × Addition n c at ws new
-
--- with another claim at place i
+-- the words ws of a register of n claims have become new: with another claim at place i
 unfoldable pub Altered : ℕ → ℕ → ℕ → List ℕ → List ℕ → Type 0
 Altered n i c ws new = (from to : ℕ) × Change n i c from to ws new
 

@@ -2,8 +2,8 @@
 ghost use Rattle.std.specs.Prelude.{◌≡◌, ◌≤◌, IfSome, IfNone};
 ghost use Rattle.estate.specs.Calls.{claims, proves, comes};
 ghost use Rattle.estate.specs.Limits.{most_cents};
-ghost use Rattle.register.specs.Rows.{middle};
-ghost use Rattle.desk.specs.Steps.{Reads, Grown, Altered, Unaltered, Does};
+ghost use Rattle.register.specs.Rows.{Added};
+ghost use Rattle.desk.specs.Steps.{Reads, Altered, Unaltered, Does};
 
 use crate::header::{COUNT, HEADER, Header, THERE};
 use crate::opening::refused;
@@ -58,10 +58,8 @@ impl Header {
 }
 
 // Adds a claim to a register of so many.
-#[tactic(auto, unfolding(crate::specs::Steps::Grown))]
 fn add(rows: &mut [u64], count: usize, cents: u64) -> Option<usize>
-    ensures some { IfSome result (λ _. Grown count cents rows.old rows.new) }
-    ensures none { IfNone result ((middle rows.old ≤ count) × (rows.new ≡ rows.old)) }
+    ensures { Added count cents rows.old rows.new result }
 {
     Register::new(rows, count).add(cents)
 }
