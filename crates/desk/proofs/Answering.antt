@@ -35,7 +35,7 @@ module _ (m out : List ℕ) (lent : Lent m out) where
   answered_by : (c : Call) (new sent : List ℕ) (a : Answer) (r : Result ℕ TurnedAway) → first_refusal (checks_alone c) ≡ 0 → is_refused a ≡ false → length (answer_row a) ≤ length out → (Stands m → Served c m new a) → Told c m new a → SameBounds m new → Sends a out sent r → Called c m new out sent r
   unfolding Sends Called
   answered_by c new sent a (Ok n) none plain room served told bounds w =
-      (a, (w.0, w.1, plain), λ d l. served d, λ un. absurd (un lent), not_alone c _ none, λ l. told, tt, bounds)
+      (a, (w.0, w.1, plain), record { served = λ d l. served d; unlent = λ un. absurd (un lent); alone = not_alone c _ none; told = λ l. told; bounds = bounds }, tt)
   answered_by c new sent a (Err t) none plain room served told bounds w = let no_room : ⊥ = omega (arith, room, w) in absurd no_room
 
   pub number_done : (c : Call) (new sent : List ℕ) (n : ℕ) (r : Result ℕ TurnedAway) → first_refusal (checks_alone c) ≡ 0 → Does c m new (Ok n) → Sends (number n) out sent r → Called c m new out sent r
@@ -46,7 +46,7 @@ module _ (m out : List ℕ) (lent : Lent m out) where
   pub number_refused : (c : Call) (new : List ℕ) (t : TurnedAway) → first_refusal (checks_alone c) ≡ 0 → Does c m new (Err t) → Called c m new out out (Err t)
   unfolding Does Called
   number_refused c new t none d =
-      (refusal t, (refl, refl), λ s l. d.0 s, λ un. absurd (un lent), not_alone c _ none, λ l. d.1, d.2, d.3)
+      (refusal t, (refl, refl), record { served = λ s l. d.0 s; unlent = λ un. absurd (un lent); alone = not_alone c _ none; told = λ l. d.1; bounds = d.3 }, d.2)
 
   -- the shares of the claims, on the terms of the division
   module _ (s : Shares) (parted : Parted m s) where
@@ -87,16 +87,9 @@ module _ (m out : List ℕ) (lent : Lent m out) where
 
       pub cents_failed : (why : CentsError) (v : TurnedAway) → r ≡ Err why → Called cents m m out out (Err v)
       unfolding Called
-      cents_failed why v is = (
-        refusal v,
-        (refl, refl),
-        λ d l. absurd (rw is at (paid d)),
-        λ un. absurd (un lent),
-        not_alone cents _ refl,
-        λ l. refl,
-        refl,
-        unchanged m,
-      )
+      cents_failed why v is =
+          let served : Stands m → Served cents m m (refusal v) = λ d. absurd (rw is at (paid d)) in
+          (refusal v, (refl, refl), record { served = λ d l. served d; unlent = λ un. absurd (un lent); alone = not_alone cents _ refl; told = λ l. refl; bounds = unchanged m }, refl)
 
 pub ruleset answers = (number_done, number_refused, shares_done)
 

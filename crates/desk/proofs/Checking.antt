@@ -46,19 +46,21 @@ narrow_told (garbled n) m new a h t = t
 -- nor does what a desk does
 widened : (c : Call) (m new out sent : List ℕ) (r : Result ℕ TurnedAway) → Called (narrow c) m new out sent r → Called c m new out sent r
 unfolding Called
-widened c m new out sent r (a, g, s, u, f, t, k, b) = (
+widened c m new out sent r (a, g, s, k) = (
   a,
   g,
-  λ d l.
-      let few : length (counted (estate_of m)) < 2 ^ 32 = omega (arith, d.fair.within.few) in
-      let same = narrow_enough (limits_of m) (estate_of m) c few in
-      let v = s d l in
-      record { memory = rw same.1 at v.memory; answer = rw same.0 at v.answer },
-  λ n. u n ∙ (narrow_alone c).1,
-  λ n. f (rw (narrow_alone c).0 n) ∙ (narrow_alone c).1,
-  λ l. narrow_told c m new a l.headed (t l),
+  record {
+    served = λ d l.
+        let few : length (counted (estate_of m)) < 2 ^ 32 = omega (arith, d.fair.within.few) in
+        let same = narrow_enough (limits_of m) (estate_of m) c few in
+        let v = s.served d l in
+        record { memory = rw same.1 at v.memory; answer = rw same.0 at v.answer };
+    unlent = λ n. s.unlent n ∙ (narrow_alone c).1;
+    alone = λ n. s.alone (rw (narrow_alone c).0 n) ∙ (narrow_alone c).1;
+    told = λ l. narrow_told c m new a l.headed (s.told l);
+    bounds = s.bounds;
+  },
   k,
-  b,
 )
 
 -- what turns a call away by itself does so on every estate
@@ -88,12 +90,14 @@ turned_away c m out t f is =
     let n = turned_alone (limits_of m) (estate_of m) c f in (
       refusal t,
       (refl, refl),
-      λ d l. refused_by c m _ (rw n f) (rw n is) d,
-      λ un. rw f is,
-      λ f. rw f is,
-      λ l. told_of c m m _ (kept_told c m _ (rw n f) (rw n is)) (λ s. refl),
+      record {
+        served = λ d l. refused_by c m _ (rw n f) (rw n is) d;
+        unlent = λ un. rw f is;
+        alone = λ f. rw f is;
+        told = λ l. told_of c m m _ (kept_told c m _ (rw n f) (rw n is)) (λ s. refl);
+        bounds = unchanged m;
+      },
       refl,
-      unchanged m,
     )
 
 module _ (c : Call) (m out : List ℕ) (t : TurnedAway) where
@@ -103,7 +107,7 @@ module _ (c : Call) (m out : List ℕ) (t : TurnedAway) where
   pub too_little : t ≡ record { why = NotLent; place = 1 } → first_refusal (checks_alone c) ≡ 0 → (Lent m out → ⊥) → Called c m m out out (Err t)
   unfolding Called
   too_little is f un =
-      (refusal t, (refl, refl), λ d l. absurd (un l), λ n. rw (f, is) refl, not_alone c _ f, λ l. absurd (un l), refl, unchanged m)
+      (refusal t, (refl, refl), record { served = λ d l. absurd (un l); unlent = λ n. rw (f, is) refl; alone = not_alone c _ f; told = λ l. absurd (un l); bounds = unchanged m }, refl)
 
 pub unread : (p : ℕ) (m out : List ℕ) (r : Result ℕ TurnedAway) → IsErrAnd r (λ t. (t.why ≡ Unreadable) × (t.place ≡ p)) → Called (garbled p) m m out out r
 unread p m out (Ok n) e = absurd e

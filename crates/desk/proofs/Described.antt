@@ -135,12 +135,14 @@ described_obeys = record {
       let called : Called c m.words new out sent r = (
         answered l e c,
         g,
-        λ _ _. record { memory = refl; answer = refl },
-        λ un. absurd (un lent),
-        answered_alone l e c,
-        λ _. told_of c m.words new _ (refl, estate_read l.creditors (after l e c) rest few) asks,
+        record {
+          served = λ _ _. record { memory = refl; answer = refl };
+          unlent = λ un. absurd (un lent);
+          alone = answered_alone l e c;
+          told = λ _. told_of c m.words new _ (refl, estate_read l.creditors (after l e c) rest few) asks;
+          bounds = record { limit = ap (λ k. k.creditors) (limits_read l.creditors (after l e c) rest few); rest = rest_read l.creditors (after l e c) rest few };
+        },
         in_err r _ _ away (λ t. rw t (sym s.laid)),
-        record { limit = ap (λ k. k.creditors) (limits_read l.creditors (after l e c) rest few); rest = rest_read l.creditors (after l e c) rest few },
       ) in
       (sent, r, called, g);
 }

@@ -110,7 +110,7 @@ module _ (k : Desk) (o : Obeys k) where
   served m c s =
       let lent = lent_enough m.words (zeros m) s (omega (arith, length-replicate {A = ℕ} (bytes_asked (limits_of m.words).creditors) 0)) in
       let (sent, r, called, given) = o.calls m c (zeros m) s lent in
-      subst (Served c m.words (k.next m c).words) (one_given called.0 (k.says m c) (zeros m) sent r called.1 given) (called.2 s lent)
+      subst (Served c m.words (k.next m c).words) (one_given called.0 (k.says m c) (zeros m) sent r called.1 given) (called.2.served s lent)
 
   -- of a desk with these limits and this estate
   module _ (l : Limits) (rest : List ℕ) where

@@ -55,10 +55,17 @@ turned_unlent c =
     let n : ℕ = first_refusal (checks_alone c) in
     if n == 0 then refused not_lent 1 else refused n (place c n)
 
--- What the call c leaves of memory m and of the bytes out: the answer a is given. Where a desk stands, and enough is lent, it
--- is the one of the definitions, and memory is that of the estate after the call. Where no desk can be, or too little is
--- lent for it, and wherever the call is turned away by itself, it is that refusal. What is left of other memory, `Told` says.
--- A call that is turned away leaves memory as it was, whatever that held.
+-- What is said of the answer a to the call c, and of memory m afterwards: where a desk stands, and enough is lent, the answer is
+-- the one of the definitions, and memory is that of the estate after the call; where no desk can be, or too little is lent
+-- for it, and wherever the call is turned away by itself, it is that refusal; of other memory `Told` says what is left.
+pub record Replied (c : Call) (m new out : List ℕ) (a : Answer) : Type 0 where
+  pub served : Stands m → Lent m out → Served c m new a
+  pub unlent : (Lent m out → ⊥) → a ≡ turned_unlent c
+  pub alone : (first_refusal (checks_alone c) == 0) ≡ false → a ≡ turned_unlent c
+  pub told : Lent m out → Told c m new a
+  pub bounds : SameBounds m new
+
+-- What the call c leaves of memory m and of the bytes out: an answer is given of which this is so. A call that is turned away
+-- leaves memory as it was, whatever that held.
 unfoldable pub Called : Call → List ℕ → List ℕ → List ℕ → List ℕ → Result ℕ TurnedAway → Type 0
-Called c m new out sent r =
-    (a : Answer) × Given a out sent r × (Stands m → Lent m out → Served c m new a) × ((Lent m out → ⊥) → a ≡ turned_unlent c) × ((first_refusal (checks_alone c) == 0) ≡ false → a ≡ turned_unlent c) × (Lent m out → Told c m new a) × IfErr r (λ _. new ≡ m) × SameBounds m new
+Called c m new out sent r = (a : Answer) × Given a out sent r × Replied c m new out a × IfErr r (λ _. new ≡ m)
