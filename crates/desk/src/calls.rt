@@ -1,5 +1,5 @@
 // A call on a desk, read, checked, done and answered.
-ghost use Rattle.std.specs.Prelude.{◌≡◌, ◌≤◌, length, IfSome, IfNone};
+ghost use Rattle.std.specs.Prelude.{◌≡◌, IfSome, IfNone};
 ghost use Rattle.estate.specs.Refusals.{checks_alone, first_refusal, place, too_large};
 ghost use Rattle.wire.specs.Meaning.{heard, meaning, told};
 ghost use Rattle.wire.specs.Reading.{read};

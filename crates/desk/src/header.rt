@@ -1,5 +1,5 @@
 // The header of a desk.
-ghost use Rattle.std.specs.Prelude.{◌≡◌, IfSome, IfNone};
+ghost use Rattle.std.specs.Prelude.{IfSome, IfNone};
 ghost use Rattle.desk.specs.Steps.{Reads};
 ghost use Rattle.desk.specs.Memory.{Lent};
 
@@ -25,7 +25,7 @@ pub(crate) struct Header {
 }
 
 impl Header {
-    // What is read of it, if its numbers may be a desk's and as much is lent as that asks for.
+    // What it says, if its numbers may be a desk's and as much is lent as such a desk asks for.
     pub(crate) fn of(mem: &[u64], out: &[u8]) -> Option<Header>
         ensures some { IfSome result (λ h. Reads h mem.now × Lent mem.now out.now) }
         ensures none { IfNone result (Lent mem.now out.now → ⊥) }

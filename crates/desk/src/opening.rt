@@ -47,6 +47,7 @@ pub fn open(mem: &mut [u64], limit: usize) -> Result<(), TurnedAway>
     Ok(())
 }
 
+// Makes all words 0.
 fn clear(words: &mut [u64])
     ensures { words.new ≡ replicate (length words.old) 0 }
 {
