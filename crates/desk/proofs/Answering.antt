@@ -1,6 +1,7 @@
 -- What is answered, and what it leaves. Assumes nothing.
 use Rattle.std.proofs.Common.{◌≡◌, ℕ, ◌*◌, ◌/◌, ◌≤◌, List, length, slice_index, sum, Ok, Err, Result, refl, ap, ◌∙◌, arith, false, ◌==◌, sym}
 use Rattle.std.proofs.lemmas.List.{length-map}
+use mathlib.Core.Logic.{inl, inr}
 use Rattle.std.proofs.lemmas.Bool.{false≢true}
 use Rattle.std.specs.Result.{IsOkAnd}
 use Rattle.estate.specs.Answers.{Answer, number, parts, amounts}
@@ -18,6 +19,7 @@ use Rattle.cents.specs.Laws.{Paid}
 use Rattle.cents.proofs.Pay.{cents_pay}
 use Rattle.wire.specs.Answers.{answer_row}
 use Rattle.wire.specs.declared.refusals.TurnedAway.{TurnedAway}
+use Rattle.wire.specs.declared.refusals.Refusal.TheVariants.{NotLent}
 use Rattle.wire.proofs.Bytes.{length-row}
 use Rattle.desk.specs.Memory.{estate_of, Stands, Lent}
 use Rattle.desk.specs.Steps.{Parted, Termed, Sends, Does}
@@ -64,7 +66,7 @@ module _ (m out : List ℕ) (lent : Lent m out) where
         let served : Stands m → Served shares m m a = λ d.
         let f = terms_for d in
         record { memory = d.laid; answer = is ∙ rw parted.1 (shares_divide (estate_of m) f.0 s.terms f.1).said } in
-        answered_by shares m sent a r refl (rw is refl) (rw is (omega (arith, few, lent.bytes, length-row))) served refl (unchanged m) w
+        answered_by shares m sent a r refl (rw is refl) (rw is (omega (arith, few, lent.bytes, length-row))) served (refl, _, _, is) (unchanged m) w
 
     module _ (r : Result (Cents Shares) CentsError) (comes : Comes shares_of (parts_word s.terms) (shares_of s) r) where
       cents_room : (k : Cents Shares) → r ≡ Ok k → length (answer_row (amounts (cents_of shares_of k))) ≤ length out
@@ -83,13 +85,13 @@ module _ (m out : List ℕ) (lent : Lent m out) where
       pub cents_done : (k : Cents Shares) (a : Answer) (sent : List ℕ) (v : Result ℕ TurnedAway) → r ≡ Ok k → a ≡ amounts (cents_of shares_of k) → Sends a out sent v → Called cents m m out sent v
       cents_done k a sent v done is w =
           let served : Stands m → Served cents m m a = λ d. record { memory = d.laid; answer = is ∙ (rw done at (paid d)).said } in
-          answered_by cents m sent a v refl (rw is refl) (rw is (cents_room k done)) served refl (unchanged m) w
+          answered_by cents m sent a v refl (rw is refl) (rw is (cents_room k done)) served (refl, inl (_, is)) (unchanged m) w
 
-      pub cents_failed : (why : CentsError) (v : TurnedAway) → r ≡ Err why → Called cents m m out out (Err v)
+      pub cents_failed : (why : CentsError) (v : TurnedAway) → r ≡ Err why → v ≡ record { why = NotLent; place = 1 } → Called cents m m out out (Err v)
       unfolding Called
-      cents_failed why v is =
+      cents_failed why v is lost =
           let served : Stands m → Served cents m m (refusal v) = λ d. absurd (rw is at (paid d)) in
-          (refusal v, (refl, refl), record { served = λ d l. served d; unlent = λ un. absurd (un lent); alone = not_alone cents _ refl; told = λ l. refl; bounds = unchanged m }, refl)
+          (refusal v, (refl, refl), record { served = λ d l. served d; unlent = λ un. absurd (un lent); alone = not_alone cents _ refl; told = λ l. (refl, inr (rw lost refl)); bounds = unchanged m }, refl)
 
 pub ruleset answers = (number_done, number_refused, shares_done)
 

@@ -9,7 +9,7 @@ use Rattle.estate.specs.Estates.{Estate, counted}
 use Rattle.estate.specs.Limits.{Limits}
 use Rattle.estate.specs.Calls.{Call, claims, proves, comes, shares, cents, garbled}
 use Rattle.estate.specs.Refusals.{checks_alone, first_refusal, turned, place}
-use Rattle.estate.specs.Right.{answered}
+use Rattle.estate.specs.Right.{says, answered}
 use Rattle.wire.specs.Calls.{narrow}
 use Rattle.wire.specs.Reading.{read, Heard}
 use Rattle.wire.specs.declared.refusals.TurnedAway.{TurnedAway}
@@ -77,11 +77,12 @@ answered_alone l e c f = rw (turned_alone l e c f, f) refl
 
 -- shares and cents change nothing, and the others do as the definitions have it
 pub told_of : (c : Call) (m new : List ℕ) (a : Answer) → AsTold c m new a → ((c ≡ shares) ⊎ (c ≡ cents) → new ≡ m) → Told c m new a
+unfolding says
 told_of (claims c) m new a t s = t
 told_of (proves i c) m new a t s = inl t
 told_of (comes x) m new a t s = t
-told_of shares m new a t s = s (inl refl)
-told_of cents m new a t s = s (inr refl)
+told_of shares m new a t s = (s (inl refl), _, _, t.0)
+told_of cents m new a t s = (s (inr refl), inl (_, t.0))
 told_of (garbled n) m new a t s = t
 
 turned_away : (c : Call) (m out : List ℕ) (t : TurnedAway) → (first_refusal (checks_alone c) == 0) ≡ false → refusal t ≡ refused (first_refusal (checks_alone c)) (place c (first_refusal (checks_alone c))) → Called c m m out out (Err t)

@@ -40,13 +40,14 @@ AsTold c m new a =
     (a ≡ answered (limits_of m) (estate_of m) c) × (estate_of new ≡ after (limits_of m) (estate_of m) c)
 
 -- Where the header may be a desk's, whatever else memory holds: so it is with claims and with cents that come; a claim that is
--- proved may be refused instead, as one that is not there; shares and cents change nothing.
+-- proved may be refused instead, as one that is not there; shares and cents change nothing and are answered in their kind, but
+-- cents may be refused, as too little is.
 abbrev pub Told : Call → List ℕ → List ℕ → Answer → Type 0
 Told (claims c) m new a = AsTold (claims c) m new a
 Told (proves i c) m new a = AsTold (proves i c) m new a ⊎ ((a ≡ refused not_there 0) × (new ≡ m))
 Told (comes x) m new a = AsTold (comes x) m new a
-Told shares m new a = new ≡ m
-Told cents m new a = new ≡ m
+Told shares m new a = (new ≡ m) × (d : ℕ) × (xs : List ℕ) × (a ≡ parts d xs)
+Told cents m new a = (new ≡ m) × (((ys : List ℕ) × (a ≡ amounts ys)) ⊎ (a ≡ refused not_lent 1))
 Told (garbled n) m new a = AsTold (garbled n) m new a
 
 -- what turns a call away where no desk can be, or too little is lent for it: what is checked of it alone, or else that
