@@ -1,0 +1,2 @@
+pub mod Nodes
+pub mod Renewing

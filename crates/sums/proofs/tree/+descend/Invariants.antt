@@ -1,0 +1,4 @@
+use Rattle.sums.proofs.tree.+descend.Given as goal
+
+abbrev pub decreases-descend : goal.decreases-descend
+decreases-descend l = l.height

@@ -1,0 +1,6 @@
+// Sums over claims in ascending order, kept as a tree: all claims together, and the level, without going through them.
+#![tactic(auto)]
+
+mod tree;
+
+pub use tree::Tree;
