@@ -3,18 +3,21 @@ use Rattle.std.proofs.Common.{◌≡◌, ℕ, suc, zero, ◌+◌, ◌-◌, ◌*�
 use mathlib.Core.Logic.{◌⊎◌, inl, inr}
 use Rattle.std.proofs.Math.Logic.{⊎_elim}
 use borrow.Rule.Slice.PartMut.{put_mid}
-use Rattle.std.proofs.lemmas.List.{places, take_at, take_all, take_more, drop_all, append-nil, ext_get_or, length-set, length-take-le, get_or-take}
+use Rattle.std.proofs.lemmas.List.{places, length-take, take_at, take_all, take_more, drop_all, append-nil, ext_get_or, length-set, length-take-le, get_or-take}
 use Rattle.std.proofs.lemmas.List.Sums.{sum_by_more}
 use Rattle.std.proofs.lemmas.Grind.{elements}
 use Rattle.std.proofs.lemmas.Bool.{cases_lt}
 use Rattle.level.specs.Words.{held}
-use Rattle.sums.specs.Nodes.{first_in, node_in, IsTree, IsMiddle, Totals, Outside, Renewal, Renewed}
-use Rattle.sums.proofs.Nodes.{first_middle, first_left, first_right, node_middle, node_left, node_right}
+use Rattle.sums.specs.Nodes.{first, node, AreSums}
+use Rattle.sums.specs.Descending.{IsMiddle, Totals}
+use Rattle.sums.specs.Renewing.{Outside, Renewal, Renewed}
+use Rattle.sums.proofs.Nodes.{first_middle, first_right, node_middle, node_left, node_right}
+use Rattle.sums.proofs.Descending.{room_before, room_taken, room_behind}
 
 -- nothing, where no claim before b has changed, or none that is there from a on
-renewal_none : (h a b : ℕ) (ks ws : List ℕ) → (b ≡ 0) ⊎ (length ks ≤ a) → Renewal h a b ks ws ws
-renewal_none h a b ks ws (inl none) = record { long = refl; untouched = λ j out. refl; nodes = λ few same right j l. right j l (inr (omega arith)) }
-renewal_none h a b ks ws (inr none) = record { long = refl; untouched = λ j out. refl; nodes = λ few same right j l. right j l (inl (omega arith)) }
+renewal_none : (a b : ℕ) (ks ws : List ℕ) → (b ≡ 0) ⊎ (length ks ≤ a) → Renewal a b ks ws ws
+renewal_none a b ks ws (inl none) = record { long = refl; untouched = λ j i out. refl; sums = λ same is. record { long = same; nodes = λ j l. is j l (inr (omega arith)) } }
+renewal_none a b ks ws (inr none) = record { long = refl; untouched = λ j i out. refl; sums = λ same is. record { long = same; nodes = λ j l. is j l (inl (omega arith)) } }
 
 -- a word behind a part, in its place
 set-behind : (m v : ℕ) (left ws : List ℕ) → length left ≡ m → m < length ws → set (left ++ drop m ws) m v ≡ left ++ (v ∷ drop (m + 1) ws)
@@ -56,126 +59,107 @@ by_place m P before here behind j =
     (cases_lt m j))
     (cases_lt j m)
 
-module _ (h m a b : ℕ) (middle : m + 1 ≡ 2 ^ h) (ks ws : List ℕ) where
-  -- where a node of the parts is, when it is outside
-  left_outside : (j : ℕ) → j < m → Outside (suc h) a b j → Outside h a b j
-  left_outside j l out = rw (first_left h m middle ks j l) at out
+module _ (h m a b : ℕ) (middle : m + 1 ≡ 2 ^ h) (ks ws : List ℕ) (few : length ks < 2 ^ suc h) (paired : length ws ≡ length ks) (some : m < length ks) (span : a < b) where
+  -- where a node of a part is outside
+  middle_outside : Outside a b m → m < a
+  middle_outside (inl l) = l
+  middle_outside (inr g) = absurd (omega (arith, first_middle h m middle, g))
 
-  middle_outside : a < b → Outside (suc h) a b m → m < a
-  middle_outside span (inl l) = l
-  middle_outside span (inr g) = absurd (omega (arith, first_middle h m middle ks, g))
+  right_outside : (k : ℕ) → k + 1 < 2 ^ h → Outside a b (m + 1 + k) → Outside (a - (m + 1)) (b - (m + 1)) k
+  right_outside k room (inl l) = inl (omega arith)
+  right_outside k room (inr g) = inr (omega (arith, first_right h m middle k room, g))
 
-  right_outside : (k : ℕ) → Outside (suc h) a b (m + 1 + k) → Outside h (a - (m + 1)) (b - (m + 1)) k
-  right_outside k (inl l) = inl (omega arith)
-  right_outside k (inr g) = inr (omega (arith, first_right h m middle ks k, g))
-
-  outside_left : (j : ℕ) → j < m → Outside h a b j → Outside (suc h) a b j
-  outside_left j l out = rw (first_left h m middle ks j l) out
-
-  outside_right : (k : ℕ) → Outside h (a - (m + 1)) (b - (m + 1)) k → Outside (suc h) a b (m + 1 + k)
-  outside_right k (inl l) = inl (omega arith)
-  outside_right k (inr g) = inr (omega (arith, first_right h m middle ks k, g))
+  outside_right : (k : ℕ) → k + 1 < 2 ^ h → Outside (a - (m + 1)) (b - (m + 1)) k → Outside a b (m + 1 + k)
+  outside_right k room (inl l) = inl (omega arith)
+  outside_right k room (inr g) = inr (omega (arith, first_right h m middle k room, g))
 
   -- a tree one higher, of its two parts and the middle
-  module _ (some : m < length ks) (paired : length ws ≡ length ks) (span : a < b) (left right : List ℕ) (v : ℕ) where
-    abbrev new : List ℕ
-    new = left ++ (v ∷ right)
+  module _ (left right : List ℕ) (v : ℕ) (l : Renewal a b (take m ks) (take m ws) left) (r : Renewal (a - (m + 1)) (b - (m + 1)) (drop (m + 1) ks) (drop (m + 1) ws) right) where
+    joined : (m < a → v ≡ slice_index ws m) → (a ≤ m → AreSums (take m ks) left → v ≡ held (sum (take (m + 1) ks))) → Renewal a b ks ws (left ++ (v ∷ right))
+    joined kept summed =
+        let new = left ++ (v ∷ right) in
+        let front = length-take-le m ks (omega arith) in
+        let front_ws = length-take-le m ws (omega arith) in
+        let back = length-drop (m + 1) ks in
+        let back_ws = length-drop (m + 1) ws in
+        let size : length left ≡ m = omega (arith, l.long) in
+        let here = at_middle m v left right size in
+        let on_left = at_left m v left right size in
+        let on_right = at_right m v left right size in
+        record {
+          long = omega (arith, length-append {A = ℕ}, l.long, r.long);
+          untouched = by_place m (λ j. j < length ws → Outside a b j → slice_index new j ≡ slice_index ws j)
+              (λ j i g out. on_left j i ∙ l.untouched j (omega arith) out ∙ get_or-take m ws j 0 i)
+              (λ g out. here ∙ kept (middle_outside out))
+              (λ k g out. on_right k ∙ r.untouched k (omega arith) (right_outside k (omega arith) out) ∙ get_or-drop (m + 1) ws k 0);
+          sums = λ same is.
+              let tree = l.sums (front_ws ∙ sym front) (λ j i out. let g : j < m = omega arith in get_or-take m ws j 0 g ∙ is j (omega arith) out ∙ node_left m j ks g) in
+              let rest = r.sums (omega arith) (λ j i out. let room : j + 1 < 2 ^ h = omega arith in get_or-drop (m + 1) ws j 0 ∙ is (m + 1 + j) (omega arith) (outside_right j room out) ∙ node_right h m middle ks j room) in
+              record {
+                long = omega (arith, length-append {A = ℕ}, l.long, r.long);
+                nodes = by_place m (λ j. j < length ks → slice_index new j ≡ node ks j)
+                    (λ j i g. on_left j i ∙ tree.nodes j (omega arith) ∙ sym (node_left m j ks i))
+                    (λ g. here ∙ ⊎_elim (λ (t : m < a). kept t ∙ is m g (inl t)) (λ (t : a ≤ m). summed t tree ∙ sym (node_middle h m middle ks)) (cases_lt m a))
+                    (λ k g. on_right k ∙ rest.nodes k (omega arith) ∙ sym (node_right h m middle ks k (omega arith)));
+              };
+        }
 
-    joined : Renewal h a b (take m ks) (take m ws) left → Renewal h (a - (m + 1)) (b - (m + 1)) (drop (m + 1) ks) (drop (m + 1) ws) right → (m < a → v ≡ slice_index ws m) → (a ≤ m → IsTree h (take m ks) left → v ≡ held (sum (take (m + 1) ks))) → Renewal (suc h) a b ks ws new
-    joined l r kept summed =
-     let front_ws = length-take-le m ws (omega arith) in
-     let back_ws = length-drop (m + 1) ws in
-     let size : length left ≡ m = omega (arith, l.long) in
-     let here = at_middle m v left right size in
-     let on_left = at_left m v left right size in
-     let on_right = at_right m v left right size in
-     record {
-      long = omega (arith, length-append {A = ℕ}, l.long, r.long);
-      untouched = by_place m (λ j. Outside (suc h) a b j → slice_index new j ≡ slice_index ws j)
-          (λ j i out. on_left j i ∙ l.untouched j (left_outside j i out) ∙ get_or-take m ws j 0 i)
-          (λ out. here ∙ kept (middle_outside span out))
-          (λ k out. on_right k ∙ r.untouched k (right_outside k out) ∙ get_or-drop (m + 1) ws k 0);
-      nodes = λ few same is.
-          let front = length-take-le m ks (omega arith) in
-          let back = length-drop (m + 1) ks in
-          let tree : IsTree h (take m ks) left = record {
-            few = omega arith;
-            long = l.long ∙ front_ws ∙ sym front;
-            nodes = l.nodes (omega arith) (front_ws ∙ sym front) (λ j i out. let g : j < m = omega arith in get_or-take m ws j 0 g ∙ is j (omega arith) (outside_left j g out) ∙ node_left h m middle ks j g);
-          } in
-          by_place m (λ j. j < length ks → slice_index new j ≡ node_in (suc h) ks j)
-          (λ j i g. on_left j i ∙ tree.nodes j (omega arith) ∙ sym (node_left h m middle ks j i))
-          (λ g. here ∙ ⊎_elim (λ (t : m < a). kept t ∙ is m g (inl t)) (λ (t : a ≤ m). summed t tree ∙ sym (node_middle h m middle ks)) (cases_lt m a))
-          (λ k g. on_right k ∙ r.nodes (omega arith) (omega arith) (λ j i out. get_or-drop (m + 1) ws j 0 ∙ is (m + 1 + j) (omega arith) (outside_right j out) ∙ node_right h m middle ks j) k (omega arith) ∙ sym (node_right h m middle ks k));
-    }
-
-pub renewed_none : (h a b : ℕ) (ks ws : List ℕ) → h < 1 → Renewed h a b ks ws ws
+pub renewed_none : (h a b : ℕ) (ks ws : List ℕ) → h < 1 → length ks < 2 ^ h → Renewed a b ks ws ws
 unfolding Renewed
-renewed_none h a b ks ws low = record {
-  long = refl;
-  untouched = λ j out. refl;
-  nodes = λ few same is j l. let none : h ≡ 0 = omega arith in absurd (omega (arith, l, rw none at few));
-}
+renewed_none h a b [] ws low few = renewal_none a b [] ws (inr (omega arith))
+renewed_none h a b (c ∷ cs) ws low few = let none : h ≡ 0 = omega arith in absurd (omega (arith, rw none at few))
 
--- what is renewed of a tree, by what is renewed of its parts
-module _ (g h m a b : ℕ) (ks ws : List ℕ) (less : g ≡ suc h) (is_middle : IsMiddle h m) (paired : length ws ≡ length ks) where
-  pub renewed_lower : (new : List ℕ) → length ks ≤ m → Renewed h a b ks ws new → Renewed g a b ks ws new
+-- what is renewed of a tree one higher than h, by what is renewed of its parts
+module _ (g h m a b : ℕ) (ks ws : List ℕ) (less : g ≡ suc h) (is_middle : IsMiddle h m) (few : length ks < 2 ^ g) (paired : length ws ≡ length ks) (some : m < length ks) (span : a < b) where
+  summed : (left : List ℕ) (tot v : ℕ) → length left ≡ m → Totals (take m (left ++ drop m ws)) tot → v ≡ held (tot + slice_index ks m) → AreSums (take m ks) left → v ≡ held (sum (take (m + 1) ks))
+  unfolding Totals
+  summed left tot v long t is tree =
+      let whole = rw (take_at left (drop m ws) m long) at t in
+      let front = whole (take m ks) tree in
+      let more = sum_by_more (λ x. x) ks m 0 some in
+      is ∙ rw front (omega (arith, more))
+
+  pub renewed_behind : (part : List ℕ) → m < a → Renewed (a - (m + 1)) (b - (m + 1)) (take (length ks - (m + 1)) (drop (m + 1) ks)) (take (length ws - (m + 1)) (drop (m + 1) ws)) part → Renewed a b ks ws (put_mid (m + 1) (length ws - (m + 1)) ws part)
   unfolding Renewed IsMiddle
-  renewed_lower new few l = rw less record {
-    long = l.long;
-    untouched = λ j out.
-        ⊎_elim
-        (λ (i : j < m). l.untouched j (left_outside h m a b is_middle ks ws j i out))
-        (λ (i : m ≤ j). grind (arith, places, l.long))
-        (cases_lt j m);
-    nodes = λ room same is j i.
-        l.nodes (omega arith) same (λ j i out. is j i (outside_left h m a b is_middle ks ws j (omega arith) out) ∙ rw (first_left h m is_middle ks j (omega arith)) refl) j i ∙ sym (rw (first_left h m is_middle ks j (omega arith)) refl);
-  }
+  renewed_behind part past r =
+      let ks_is = take_all (length ks - (m + 1)) (drop (m + 1) ks) (omega (arith, length-drop (m + 1) ks)) in
+      let ws_is = take_all (length ws - (m + 1)) (drop (m + 1) ws) (omega (arith, length-drop (m + 1) ws)) in
+      let left = renewal_none a b (take m ks) (take m ws) (inr (omega (arith, length-take-le m ks (omega arith)))) in
+      let all : put_mid (m + 1) (length ws - (m + 1)) ws part ≡ take m ws ++ (slice_index ws m ∷ part) = put-end (m + 1) ws part (omega arith) ∙ rw (take_more ws m 0 (omega arith)) (append_assoc (take m ws) (slice_index ws m ∷ []) part) in
+      rw all (joined h m a b is_middle ks ws (rw less at few) paired some span (take m ws) part (slice_index ws m) left (rw (ks_is, ws_is) at r) (λ past. refl) (λ first. absurd (omega arith)))
 
-  module _ (some : m < length ks) (span : a < b) where
-    summed : (left : List ℕ) (tot v : ℕ) → length left ≡ m → Totals h (take m (left ++ drop m ws)) tot → v ≡ held (tot + slice_index ks m) → IsTree h (take m ks) left → v ≡ held (sum (take (m + 1) ks))
-    unfolding Totals
-    summed left tot v long t is tree =
-        let whole = rw (take_at left (drop m ws) m long) at t in
-        let front = whole (take m ks) tree in
-        let more = sum_by_more (λ x. x) ks m 0 some in
-        is ∙ rw front (omega (arith, more))
+  -- with the words before the middle, and what is in it
+  module _ (left : List ℕ) (tot v : ℕ) (first : a ≤ m) (l : Renewed a b (take m ks) (take m ws) left) (t : Totals (take m (left ++ drop m ws)) tot) (is : v ≡ held (tot + slice_index ks m)) where
+    size : length left ≡ m
+    unfolding Renewed
+    size = l.long ∙ length-take-le m ws (omega arith)
 
-    pub renewed_behind : (part : List ℕ) → m < a → Renewed h (a - (m + 1)) (b - (m + 1)) (take (length ks - (m + 1)) (drop (m + 1) ks)) (take (length ws - (m + 1)) (drop (m + 1) ws)) part → Renewed g a b ks ws (put_mid (m + 1) (length ws - (m + 1)) ws part)
+    joined_at : (right : List ℕ) → Renewal (a - (m + 1)) (b - (m + 1)) (drop (m + 1) ks) (drop (m + 1) ws) right → Renewal a b ks ws (left ++ (v ∷ right))
     unfolding Renewed IsMiddle
-    renewed_behind part past r =
+    joined_at right r =
+        joined h m a b is_middle ks ws (rw less at few) paired some span left right v l r (λ past. absurd (omega arith)) (λ first. summed left tot v size t is)
+
+    pub renewed_before : b ≤ m + 1 → Renewed a b ks ws (set (left ++ drop m ws) m v)
+    unfolding Renewed
+    renewed_before last =
+        rw (set-behind m v left ws size (omega arith)) (joined_at (drop (m + 1) ws) (renewal_none _ _ _ _ (inl (omega arith))))
+
+    pub renewed_both : (part : List ℕ) → Renewed 0 (b - (m + 1)) (take (length ks - (m + 1)) (drop (m + 1) ks)) (take (length (set (left ++ drop m ws) m v) - (m + 1)) (drop (m + 1) (set (left ++ drop m ws) m v))) part → Renewed a b ks ws (put_mid (m + 1) (length (set (left ++ drop m ws) m v) - (m + 1)) (set (left ++ drop m ws) m v) part)
+    unfolding Renewed
+    renewed_both part r =
+        let here = set-behind m v left ws size (omega arith) in
+        let behind = drop_right m v left (drop (m + 1) ws) size in
+        let right = rw (here, behind) at r in
+        let whole = take_all (length (left ++ (v ∷ drop (m + 1) ws)) - (m + 1)) (drop (m + 1) ws) (omega (arith, length-append {A = ℕ}, size)) in
         let ks_is = take_all (length ks - (m + 1)) (drop (m + 1) ks) (omega (arith, length-drop (m + 1) ks)) in
-        let ws_is = take_all (length ws - (m + 1)) (drop (m + 1) ws) (omega (arith, length-drop (m + 1) ws)) in
-        let front = length-take-le m ws (omega arith) in
-        let left = renewal_none h a b (take m ks) (take m ws) (inr (omega (arith, length-take-le m ks (omega arith)))) in
-        let all : put_mid (m + 1) (length ws - (m + 1)) ws part ≡ take m ws ++ (slice_index ws m ∷ part) = put-end (m + 1) ws part (omega arith) ∙ rw (take_more ws m 0 (omega arith)) (append_assoc (take m ws) (slice_index ws m ∷ []) part) in
-        rw (less, all) (joined h m a b is_middle ks ws some paired span (take m ws) part (slice_index ws m) left (rw (ks_is, ws_is) at r) (λ past. refl) (λ first. absurd (omega arith)))
+        let start : a - (m + 1) ≡ 0 = omega arith in
+        rw (here, put_right m v left (drop (m + 1) ws) size part) (joined_at part (rw start (rw (whole, ks_is) at right)))
 
-    -- with the words before the middle, and what is in it
-    module _ (left : List ℕ) (tot v : ℕ) (first : a ≤ m) (l : Renewed h a b (take m ks) (take m ws) left) (t : Totals h (take m (left ++ drop m ws)) tot) (is : v ≡ held (tot + slice_index ks m)) where
-      size : length left ≡ m
-      unfolding Renewed
-      size = l.long ∙ length-take-le m ws (omega arith)
+-- parts of lists of one length
+pub paired_taken : (m : ℕ) (ks ws : List ℕ) → length ws ≡ length ks → length (take m ws) ≡ length (take m ks)
+paired_taken m ks ws paired = omega (arith, length-take m ks, length-take m ws)
 
-      joined_at : (right : List ℕ) → Renewal h (a - (m + 1)) (b - (m + 1)) (drop (m + 1) ks) (drop (m + 1) ws) right → Renewal (suc h) a b ks ws (left ++ (v ∷ right))
-      unfolding Renewed IsMiddle
-      joined_at right r =
-          joined h m a b is_middle ks ws some paired span left right v l r (λ past. absurd (omega arith)) (λ first. summed left tot v size t is)
+pub paired_behind : (m v : ℕ) (ks ws left : List ℕ) → length ws ≡ length ks → length left ≡ length (take m ws) → length (take (length (set (left ++ drop m ws) m v) - (m + 1)) (drop (m + 1) (set (left ++ drop m ws) m v))) ≡ length (take (length ks - (m + 1)) (drop (m + 1) ks))
+paired_behind m v ks ws left paired long = grind (arith, places, length-set)
 
-      pub renewed_before : b ≤ m + 1 → Renewed g a b ks ws (set (left ++ drop m ws) m v)
-      unfolding Renewed
-      renewed_before last =
-          rw (less, set-behind m v left ws size (omega arith)) (joined_at (drop (m + 1) ws) (renewal_none h _ _ _ _ (inl (omega arith))))
-
-      pub renewed_both : (part : List ℕ) → Renewed h 0 (b - (m + 1)) (take (length ks - (m + 1)) (drop (m + 1) ks)) (take (length (set (left ++ drop m ws) m v) - (m + 1)) (drop (m + 1) (set (left ++ drop m ws) m v))) part → Renewed g a b ks ws (put_mid (m + 1) (length (set (left ++ drop m ws) m v) - (m + 1)) (set (left ++ drop m ws) m v) part)
-      unfolding Renewed
-      renewed_both part r =
-          let here = set-behind m v left ws size (omega arith) in
-          let behind = drop_right m v left (drop (m + 1) ws) size in
-          let right = rw (here, behind) at r in
-          let whole = take_all (length (left ++ (v ∷ drop (m + 1) ws)) - (m + 1)) (drop (m + 1) ws) (omega (arith, length-append {A = ℕ}, size)) in
-          let ks_is = take_all (length ks - (m + 1)) (drop (m + 1) ks) (omega (arith, length-drop (m + 1) ks)) in
-          let start : a - (m + 1) ≡ 0 = omega arith in
-          rw (less, here, put_right m v left (drop (m + 1) ws) size part) (joined_at part (rw start (rw (whole, ks_is) at right)))
-
-pub ruleset renewed = (renewed_none, renewed_lower, renewed_behind, renewed_before, renewed_both)
+pub ruleset renewed = (renewed_none, renewed_behind, renewed_before, renewed_both, room_before, room_taken, room_behind, paired_taken, paired_behind)

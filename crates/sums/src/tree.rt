@@ -1,6 +1,7 @@
 // A tree of sums over claims in ascending order. ...
 ghost use Rattle.std.specs.Prelude.{◌≡◌, ◌≤◌, ◌<◌, ◌+◌, ◌^◌, length};
-ghost use Rattle.sums.specs.Nodes.{IsHeight, IsMiddle, Renewed, Sought, Totals};
+ghost use Rattle.sums.specs.Descending.{IsHeight, IsMiddle, Sought, Totals};
+ghost use Rattle.sums.specs.Renewing.{Renewed};
 
 use level::Fraction;
 
@@ -29,10 +30,11 @@ fn middle(height: u32) -> usize
 }
 
 // What is claimed by all together.
-#[tactic(auto, using(crate::proofs::Nodes::totals))]
+#[tactic(auto, using(crate::proofs::Descending::totals))]
 fn total(height: u32, sums: &[u64]) -> u64
-    requires { height ≤ 64 }
-    ensures { Totals height sums.now result }
+    requires word { height ≤ 64 }
+    requires room { length sums.now < 2 ^ height }
+    ensures { Totals sums.now result }
 {
     let Some(height) = height.checked_sub(1) else {
         return 0;
@@ -66,7 +68,7 @@ impl Descent {
 }
 
 // Goes down from the middle of a tree so high, to where the level lies.
-#[tactic(auto, using(crate::proofs::Nodes::sought))]
+#[tactic(auto, using(crate::proofs::Descending::sought))]
 fn descend(height: u32, sums: &[u64], claims: &[u64], target: u64) -> Descent
     requires word { height ≤ 64 }
     requires paired { length sums.now ≡ length claims.now }
@@ -102,9 +104,10 @@ fn descend(height: u32, sums: &[u64], claims: &[u64], target: u64) -> Descent
 #[tactic(auto, using(crate::proofs::Renewing::renewed))]
 fn renew_in(height: u32, sums: &mut [u64], claims: &[u64], from: usize, to: usize)
     requires word { height ≤ 64 }
+    requires room { length claims.now < 2 ^ height }
     requires paired { length sums.old ≡ length claims.now }
     requires some { from < to }
-    ensures { Renewed height from to claims.now sums.old sums.new }
+    ensures { Renewed from to claims.now sums.old sums.new }
 {
     let Some(height) = height.checked_sub(1) else {
         return;

@@ -1,0 +1,17 @@
+-- What is written of a tree of sums, after some claims have changed. Assumes nothing.
+use Rattle.std.specs.Prelude.{◌≡◌, ℕ, ◌<◌, ◌≤◌, ◌⊎◌, List, length, slice_index}
+use Rattle.sums.specs.Nodes.{first, node, AreSums}
+
+-- the node at place j sums over none of the claims from place a on and before b
+abbrev pub Outside : ℕ → ℕ → ℕ → Type 0
+Outside a b j = (j < a) ⊎ (b ≤ first j)
+
+-- Claims from place a on and before b have changed, and are ks now. Where the other words were the nodes over these, all words
+-- are so afterwards; and these others are as they were.
+pub record Renewal (a b : ℕ) (ks ws new : List ℕ) : Type 0 where
+  pub long : length new ≡ length ws
+  pub untouched : (j : ℕ) → j < length ws → Outside a b j → slice_index new j ≡ slice_index ws j
+  pub sums : length ws ≡ length ks → ((j : ℕ) → j < length ks → Outside a b j → slice_index ws j ≡ node ks j) → AreSums ks new
+
+unfoldable pub Renewed : ℕ → ℕ → List ℕ → List ℕ → List ℕ → Type 0
+Renewed a b ks ws new = Renewal a b ks ws new
