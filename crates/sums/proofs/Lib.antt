@@ -1,3 +1,3 @@
 pub mod Nodes
-pub mod Descending
-pub mod Renewing
+pub mod Found
+pub mod Written

@@ -22,6 +22,10 @@ heighted n h =
     let is : 64 - count_leading_zeros 64 n ≡ m = omega arith in
     rw is (omega arith, room, least)
 
+pub height_room : (n h : ℕ) → IsHeight n h → (h ≤ 64) × (n < 2 ^ h)
+unfolding IsHeight
+height_room n h is = (is.0, is.1)
+
 pub middled : (h : ℕ) → h < 64 → IsMiddle h ((1 * 2 ^ h) % 2 ^ 64 - 1)
 unfolding IsMiddle
 middled h low = omega (arith, one_shl h 64 low, pow_pos h)

@@ -1,6 +1,9 @@
 // Sums over claims in ascending order, kept as a tree: all claims together, and the level, without going through them.
 #![tactic(auto)]
 
+mod descending;
+mod renewing;
 mod tree;
 
+pub use descending::Descent;
 pub use tree::Tree;

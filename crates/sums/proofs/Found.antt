@@ -6,17 +6,18 @@ use Rattle.std.proofs.lemmas.List.{places, length-take, take-take, take_all, dro
 use Rattle.std.proofs.lemmas.List.Elements.{All-tail}
 use Rattle.std.proofs.lemmas.List.Sorted.{IsNonDecreasingBy-drop}
 use Rattle.std.proofs.lemmas.List.Sums.{sum_by-take-drop}
+use Rattle.std.proofs.Math.Pow.{pow_mono}
 use Rattle.std.proofs.lemmas.Nat.{pow_pos}
 use Rattle.std.proofs.lemmas.Bool.Decides.{nat_tests}
 use Rattle.estate.specs.Level.{Level, fill}
 use Rattle.estate.proofs.Rows.{sum-cons}
 use Rattle.estate.proofs.Ordered.{rising_head, rising_tail}
 use Rattle.level.specs.Words.{held}
-use Rattle.level.specs.Levels.{level_of}
+use Rattle.level.specs.Levels.{Fills}
 use Rattle.level.specs.declared.filling.Fraction.{Fraction}
 use Rattle.sums.specs.Nodes.{node, AreSums}
-use Rattle.sums.specs.Descending.{IsMiddle, Totals, EndsWithin, Descends, Sought}
-use Rattle.sums.proofs.Nodes.{node_middle, node_right}
+use Rattle.sums.specs.Descending.{IsHeight, IsMiddle, Totals, EndsWithin, Descends, Sought}
+use Rattle.sums.proofs.Nodes.{height_room, node_middle, node_right}
 
 -- what a saturating sum comes to
 pub held-more : (a b : ℕ) → held (held a + b) ≡ held (a + b)
@@ -146,3 +147,20 @@ module _ (g h m n : ℕ) (ks ws : List ℕ) (f : Fraction) (less : g ≡ suc h) 
       ∙ sym fills
 
 pub ruleset sought = (sought_none, sought_lower, sought_before, sought_behind)
+
+-- the whole tree
+pub total_of : (ks ws : List ℕ) (r : ℕ) → Totals ws r → AreSums ks ws → r ≡ held (sum ks)
+unfolding Totals
+total_of ks ws r t s = t ks s
+
+pub level_of_tree : (h n : ℕ) (ks ws : List ℕ) (f : Fraction) → IsHeight (length ks) h → n < 2 ^ 64 → Sought h n ks ws f → IsNonDecreasing ks → AreSums ks ws → Fills ks n f
+unfolding Sought IsHeight
+level_of_tree h n ks ws f high word s rising sums = s record { nodes = λ j i l. sums.nodes j l; rising = rising; word = word; ends = inl high.1 }
+
+pub few_steps : (h n s : ℕ) → IsHeight n h → s ≤ h → 2 ^ s ≤ 2 * n + 1
+unfolding IsHeight
+few_steps h n s high few = let low = pow_mono few in omega arith
+
+pub ruleset found = (level_of_tree, few_steps, height_room)
+
+pub ruleset in_all = (total_of, height_room)

@@ -1,4 +1,4 @@
-use Rattle.sums.proofs.tree.+total.Given as goal
+use Rattle.sums.proofs.descending.+total.Given as goal
 
 abbrev pub decreases-total : goal.decreases-total
 decreases-total l = l.height

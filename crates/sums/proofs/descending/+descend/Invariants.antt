@@ -1,4 +1,4 @@
-use Rattle.sums.proofs.tree.+descend.Given as goal
+use Rattle.sums.proofs.descending.+descend.Given as goal
 
 abbrev pub decreases-descend : goal.decreases-descend
 decreases-descend l = l.height

@@ -12,7 +12,7 @@ use Rattle.sums.specs.Nodes.{first, node, AreSums}
 use Rattle.sums.specs.Descending.{IsMiddle, Totals}
 use Rattle.sums.specs.Renewing.{Outside, Renewal, Renewed}
 use Rattle.sums.proofs.Nodes.{first_middle, first_right, node_middle, node_left, node_right}
-use Rattle.sums.proofs.Descending.{room_before, room_taken, room_behind}
+use Rattle.sums.proofs.Found.{room_before, room_taken, room_behind}
 
 -- nothing, where no claim before b has changed, or none that is there from a on
 renewal_none : (a b : ℕ) (ks ws : List ℕ) → (b ≡ 0) ⊎ (length ks ≤ a) → Renewal a b ks ws ws

@@ -1,0 +1,94 @@
+// Down a tree of sums, from its middle to a place. A tree is as high as it has nodes on the longest way down; its middle is
+// the node at which the way begins, and what lies on either side of it is a tree one less high.
+ghost use Rattle.std.specs.Prelude.{◌≡◌, ◌≤◌, ◌<◌, ◌+◌, ◌^◌, length};
+ghost use Rattle.sums.specs.Descending.{IsHeight, IsMiddle, Sought, Totals};
+
+use level::Fraction;
+
+// How high a tree over so many claims is.
+#[tactic(auto, using(crate::proofs::Nodes::heighted))]
+pub(crate) fn height(claims: usize) -> u32
+    ensures { IsHeight claims result }
+{
+    usize::BITS - claims.leading_zeros()
+}
+
+// The place of the node in the middle of a tree that is so much higher than 0 and one.
+#[tactic(auto, using(crate::proofs::Nodes::middled))]
+pub(crate) fn middle(height: u32) -> usize
+    requires { height < 64 }
+    ensures { IsMiddle height result }
+{
+    (1 << height) - 1
+}
+
+// What is claimed by all together.
+#[tactic(auto, using(crate::proofs::Found::totals))]
+pub(crate) fn total(height: u32, sums: &[u64]) -> u64
+    requires word { height ≤ 64 }
+    requires room { length sums.now < 2 ^ height }
+    ensures { Totals sums.now result }
+{
+    let Some(height) = height.checked_sub(1) else {
+        return 0;
+    };
+    let middle = middle(height);
+    if middle < sums.len() {
+        sums[middle].saturating_add(total(height, &sums[middle + 1..]))
+    } else {
+        total(height, sums)
+    }
+}
+
+// The level, and at how many nodes it was decided where it lies, each by the sum there and one claim.
+#[derive(Clone, Copy, Debug, PartialEq, Eq)]
+pub struct Descent {
+    pub level: Fraction,
+    pub steps: u32,
+}
+
+impl Descent {
+    // One more such node.
+    fn further(self) -> Self
+        requires { self.steps < 64 }
+        ensures { result ≡ record { level = self.level; steps = self.steps + 1 } }
+    {
+        Descent {
+            level: self.level,
+            steps: self.steps + 1,
+        }
+    }
+}
+
+// Goes down from the middle of a tree so high, to where the level lies.
+#[tactic(auto, using(crate::proofs::Found::sought))]
+pub(crate) fn descend(height: u32, sums: &[u64], claims: &[u64], target: u64) -> Descent
+    requires word { height ≤ 64 }
+    requires paired { length sums.now ≡ length claims.now }
+    ensures steps { result.steps ≤ height }
+    ensures level { Sought height target claims.now sums.now result.level }
+{
+    let Some(height) = height.checked_sub(1) else {
+        let level = Fraction {
+            numerator: target,
+            denominator: claims.len() as u64,
+        };
+        return Descent { level, steps: 0 };
+    };
+    let middle = middle(height);
+    if claims.len() <= middle {
+        return descend(height, sums, claims, target);
+    }
+    let others = claims.len() - middle - 1;
+    if u128::from(target) <= u128::from(sums[middle]) + others as u128 * u128::from(claims[middle]) {
+        descend(height, sums, claims, target).further()
+    } else {
+        descend(
+            height,
+            &sums[middle + 1..],
+            &claims[middle + 1..],
+            target - sums[middle],
+        )
+        .further()
+    }
+}
