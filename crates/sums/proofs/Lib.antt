@@ -1,3 +1,4 @@
 pub mod Nodes
 pub mod Found
 pub mod Written
+pub mod Rows

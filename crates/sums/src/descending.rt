@@ -80,7 +80,9 @@ pub(crate) fn descend(height: u32, sums: &[u64], claims: &[u64], target: u64) ->
         return descend(height, sums, claims, target);
     }
     let others = claims.len() - middle - 1;
-    if u128::from(target) <= u128::from(sums[middle]) + others as u128 * u128::from(claims[middle]) {
+    if u128::from(target)
+        <= u128::from(sums[middle]) + others as u128 * u128::from(claims[middle])
+    {
         descend(height, sums, claims, target).further()
     } else {
         descend(

@@ -2,8 +2,10 @@
 #![tactic(auto)]
 
 mod descending;
+mod ledger;
 mod renewing;
 mod tree;
 
 pub use descending::Descent;
+pub use ledger::{add, change, tree_of};
 pub use tree::Tree;

@@ -33,11 +33,23 @@ fn renew_in(height: u32, sums: &mut [u64], claims: &[u64], from: usize, to: usiz
     }
     let behind = middle + 1;
     if middle < from {
-        return renew_in(height, &mut sums[behind..], &claims[behind..], from - behind, to - behind);
+        return renew_in(
+            height,
+            &mut sums[behind..],
+            &claims[behind..],
+            from - behind,
+            to - behind,
+        );
     }
     renew_in(height, &mut sums[..middle], &claims[..middle], from, to);
     sums[middle] = total(height, &sums[..middle]).saturating_add(claims[middle]);
     if behind < to {
-        renew_in(height, &mut sums[behind..], &claims[behind..], 0, to - behind);
+        renew_in(
+            height,
+            &mut sums[behind..],
+            &claims[behind..],
+            0,
+            to - behind,
+        );
     }
 }
