@@ -2,3 +2,4 @@ pub mod Nodes
 pub mod Found
 pub mod Written
 pub mod Rows
+pub mod Ledgers

@@ -3,6 +3,7 @@
 ghost use Rattle.std.specs.Prelude.{◌≡◌, ◌<◌, ◌≤◌, ◌+◌, ◌*◌, IfSome, IfNone, length, take, drop};
 ghost use Rattle.register.specs.Rows.{Added, Changed};
 ghost use Rattle.sums.specs.Ledger.{room, Enters, Amends};
+ghost use Rattle.sums.specs.Laws.{Adds, Changes, NeverOutOfOrder, Reads};
 
 use crate::renewing::renew;
 use crate::tree::Tree;
@@ -10,9 +11,10 @@ use register::{Moved, Register, Unfit};
 
 // Adds a claim last, and answers where it is among those in order, counted from the first word. Where there is no room,
 // nothing is done.
-#[tactic(auto, using(crate::proofs::Rows::enters))]
+#[tactic(auto, using(crate::proofs::Rows::enters, crate::proofs::Ledgers::adds))]
 pub fn add(rows: &mut [u64], count: usize, claim: u64) -> Option<usize>
-    ensures { Enters count claim rows.old rows.new result }
+    ensures enters { Enters count claim rows.old rows.new result }
+    ensures adds { Adds }
 {
     let room = rows.len() / 3;
     let (register, sums) = rows.split_at_mut(2 * room);
@@ -28,9 +30,11 @@ pub fn add(rows: &mut [u64], count: usize, claim: u64) -> Option<usize>
 
 // Changes the claim at a place, and answers from where to where it moved among those in order. Where that does not fit, nothing
 // is done.
-#[tactic(auto, using(crate::proofs::Rows::amends))]
+#[tactic(auto, using(crate::proofs::Rows::amends, crate::proofs::Ledgers::changed))]
 pub fn change(rows: &mut [u64], count: usize, i: usize, claim: u64) -> Result<Moved, Unfit>
-    ensures { Amends count i claim rows.old rows.new result }
+    ensures amends { Amends count i claim rows.old rows.new result }
+    ensures changes { Changes }
+    ensures never_out_of_order { NeverOutOfOrder }
 {
     let room = rows.len() / 3;
     let (register, sums) = rows.split_at_mut(2 * room);
@@ -56,10 +60,12 @@ fn amend(rows: &mut [u64], count: usize, i: usize, claim: u64) -> Result<Moved, 
 }
 
 // The tree in a ledger of so many claims, if there is room for so many.
+#[tactic(auto, using(crate::proofs::Ledgers::reads))]
 pub fn tree_of(rows: &[u64], count: usize) -> Option<Tree<'_>>
     ensures none { IfNone result (room rows.now < count) }
     ensures claims { IfSome result (λ t. t.claims.now ≡ take count (drop (room rows.now) rows.now)) }
     ensures sums { IfSome result (λ t. t.sums.now ≡ take count (drop (2 * room rows.now) rows.now)) }
+    ensures reads { Reads }
 {
     let room = rows.len() / 3;
     if room < count {
