@@ -3,3 +3,4 @@ pub mod Found
 pub mod Written
 pub mod Rows
 pub mod Ledgers
+pub mod Came

@@ -1,0 +1,78 @@
+-- Of rows that may hold anything, the claims as they came, after one more and after a change. Assumes nothing.
+use Rattle.std.proofs.Common.{◌≡◌, ℕ, ◌+◌, ◌*◌, ◌<◌, ◌≤◌, List, [], ◌∷◌, ◌++◌, length, take, drop, slice_index, slice_set, length-append, length-drop, ap, ◌∙◌, arith}
+use Rattle.std.proofs.lemmas.List.{places, ext_get_or, length-set, length-take, length-take-le, take-take, take-append-le}
+use Rattle.std.proofs.lemmas.Grind.{elements}
+use Rattle.std.proofs.Math.Seq.{take-set-lt}
+use Rattle.register.specs.Rows.{middle, Addition, Change}
+use Rattle.sums.specs.Ledger.{room, register, Resummed, Entered, Amended}
+
+-- what is the same below a place has the same words before it
+same_front : (n : ℕ) (xs ys : List ℕ) → n ≤ length xs → length xs ≡ length ys → ((k : ℕ) → k < n → slice_index xs k ≡ slice_index ys k) → take n xs ≡ take n ys
+same_front n xs ys few long same =
+    ext_get_or 0 _ _ (grind (arith, places)) (λ k h.
+    let at = same k (omega (arith, h, length-take n xs)) in
+    grind (arith, places))
+
+came_added : (n c at : ℕ) (ws new : List ℕ) → Addition n c at ws new → take (n + 1) new ≡ take n ws ++ c ∷ []
+came_added n c at ws new a =
+    let room = a.room in
+    let long = a.inserted.carried.long in
+    let wide = length-set ws n c in
+    let front = same_front (n + 1) new (slice_set ws n c) (omega arith) long (λ k h. a.inserted.carried.below k (omega (arith, a.inserted.fits.above)) (omega arith)) in
+    let last : take (n + 1) (slice_set ws n c) ≡ take n ws ++ c ∷ [] = grind (arith, elements) in
+    front ∙ last
+
+came_changed : (n i c from to : ℕ) (ws new : List ℕ) → Change n i c from to ws new → take n new ≡ slice_set (take n ws) i c
+came_changed n i c from to ws new a =
+    let room = a.room in
+    let there = a.there in
+    let long = a.replaced.carried.long in
+    let wide = length-set ws i c in
+    let front = same_front n new (slice_set ws i c) (omega arith) long (λ k h. a.replaced.carried.below k (omega (arith, a.replaced.goes.above)) (omega (arith, a.replaced.stood.fits.above))) in
+    front ∙ take-set-lt n ws i c there
+
+-- rows of which n claims were in the register, and what has become of them
+module _ (n a b : ℕ) (ws front new : List ℕ) (r : Resummed n a b ws front new) (long : length front ≡ length (register ws)) (few : n ≤ room ws) where
+  two_long : length (register ws) ≡ 2 * room ws
+  two_long = length-take-le _ ws (omega arith)
+
+  resummed_long : length new ≡ length ws
+  resummed_long =
+      ap length r.words
+      ∙ omega (arith, length-append {A = ℕ}, r.renewed.long, long, two_long, length-take n (drop (2 * room ws) ws), length-drop n (drop (2 * room ws) ws), length-drop (2 * room ws) ws)
+
+  resummed_front : (k : ℕ) → k ≤ n → take k new ≡ take k front
+  resummed_front k l = ap (take k) r.words ∙ take-append-le k front _ (omega (arith, long, two_long))
+
+halves : (ws : List ℕ) → middle (register ws) ≡ room ws
+halves ws = let long = length-take-le (2 * room ws) ws (omega arith) in omega arith
+
+module _ (n c : ℕ) (ws new : List ℕ) where
+  pub entered_long : (at : ℕ) → Entered n c at ws new → (n < room ws) × (length new ≡ length ws)
+  entered_long at e =
+      let half = halves ws in
+      let few : n < room ws = omega (arith, e.added.room) in
+      (few, resummed_long (n + 1) _ _ ws e.front new e.resummed (e.added.inserted.carried.long ∙ length-set (register ws) n c) (omega arith))
+
+  pub entered_came : (at : ℕ) → Entered n c at ws new → take (n + 1) new ≡ take n ws ++ c ∷ []
+  entered_came at e =
+      let few = (entered_long at e).0 in
+      let front = resummed_front (n + 1) _ _ ws e.front new e.resummed (e.added.inserted.carried.long ∙ length-set (register ws) n c) (omega arith) (n + 1) (omega arith) in
+      front
+      ∙ came_added n c at (register ws) e.front e.added
+      ∙ ap (λ cs. cs ++ c ∷ []) (take-take n (2 * room ws) ws (omega arith))
+
+  module _ (i from to : ℕ) (e : Amended n i c from to ws new) where
+    pub amended_long : (i < n) × (n ≤ room ws) × (length new ≡ length ws)
+    amended_long =
+        let half = halves ws in
+        let few : n ≤ room ws = omega (arith, e.changed.room) in
+        (e.changed.there, few, resummed_long n _ _ ws e.front new e.resummed (e.changed.replaced.carried.long ∙ length-set (register ws) i c) few)
+
+    pub amended_came : take n new ≡ slice_set (take n ws) i c
+    amended_came =
+        let few = amended_long.1 in
+        let front = resummed_front n _ _ ws e.front new e.resummed (e.changed.replaced.carried.long ∙ length-set (register ws) i c) few n (omega arith) in
+        front
+        ∙ came_changed n i c from to (register ws) e.front e.changed
+        ∙ ap (λ cs. slice_set cs i c) (take-take n (2 * room ws) ws (omega arith))
