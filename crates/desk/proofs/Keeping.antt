@@ -1,5 +1,5 @@
 -- What the calls that change a desk leave. Assumes nothing.
-use Rattle.std.proofs.Common.{◌≡◌, ℕ, false, ◌==◌, ◌+◌, ◌*◌, ◌<◌, ◌≤◌, List, [], ◌∷◌, ◌++◌, length, take, drop, slice_index, slice_set, Ok, Err, sym, refl, ap, ◌∙◌, arith}
+use Rattle.std.proofs.Common.{◌≡◌, ℕ, false, ◌==◌, ◌+◌, ◌*◌, ◌<◌, ◌≤◌, List, [], ◌∷◌, ◌++◌, length, take, drop, slice_index, slice_set, Some, None, Ok, Err, sym, refl, ap, ◌∙◌, arith}
 use borrow.Rule.Slice.PartMut.{put_mid}
 use Rattle.std.proofs.lemmas.List.{places, take-append-drop, take-take, length_push, drop-set-lt, length-set, length-take-le, length-drop}
 use Rattle.std.proofs.lemmas.Slice.{drop-put_mid}
@@ -11,15 +11,17 @@ use Rattle.estate.specs.Calls.{Call, claims, proves, comes}
 use Rattle.estate.specs.Changes.{changed}
 use Rattle.estate.specs.Limits.{most_cents, most_there}
 use Rattle.estate.specs.Right.{says}
-use Rattle.register.specs.Rows.{middle, Addition, Unchanged}
+use Rattle.register.specs.Rows.{Unchanged}
 use Rattle.register.specs.declared.rows.Unfit.{Unfit}
 use Rattle.register.specs.declared.rows.Unfit.TheVariants as unfit
+use Rattle.sums.specs.Ledger.{room, register, Enters}
+use Rattle.sums.proofs.Came.{halves, entered_long, entered_came, amended_long, amended_came}
 use Rattle.wire.specs.declared.refusals.TurnedAway.{TurnedAway}
 use Rattle.wire.specs.declared.refusals.Refusal.TheVariants.{NoRoom, NotThere}
-use Rattle.desk.specs.Memory.{header_words, register, words_asked, layout, limits_of, estate_of, rest_of, Headed, Stands}
+use Rattle.desk.specs.Memory.{header_words, rows, words_asked, layout, limits_of, estate_of, rest_of, Headed, Stands}
 use Rattle.desk.specs.Steps.{Altered, Unaltered, Does}
 use Rattle.desk.specs.Calling.{Served, SameBounds, AsTold}
-use Rattle.desk.proofs.Words.{claims_counted, put_below, comes_told, claims_told, proves_told, came_added, came_changed, register_added, register_changed, register_ordered, comes_writes, claims_writes, proves_writes, body}
+use Rattle.desk.proofs.Words.{claims_counted, put_below, comes_told, claims_told, proves_told, rows_added, rows_changed, rows_ordered, comes_writes, claims_writes, proves_writes, body}
 
 -- a call that is not turned away, of a desk
 served_by : (c : Call) (m new : List ℕ) (a : Answer) → turned (limits_of m) (estate_of m) c ≡ 0 → new ≡ layout (limits_of m) (changed (estate_of m) c) ++ rest_of m → a ≡ says (estate_of m) c → Served c m new a
@@ -63,8 +65,8 @@ module _ (m : List ℕ) (there : ℕ) (is_there : there ≡ slice_index m 1) (he
     unchanged m,
   )
 
--- memory whose header says the limit and how many claims there are, of which so many words are the register
-module _ (m : List ℕ) (limit count k : ℕ) (is_limit : limit ≡ slice_index m 0) (is_count : count ≡ slice_index m 2) (span : k ≡ 2 * limit) (headed : Headed m) where
+-- memory whose header says the limit and how many claims there are, of which so many words are the ledger
+module _ (m : List ℕ) (limit count k : ℕ) (is_limit : limit ≡ slice_index m 0) (is_count : count ≡ slice_index m 2) (span : k ≡ 3 * limit) (headed : Headed m) where
   abbrev part0 : List ℕ
   part0 = take k (drop header_words m)
 
@@ -72,8 +74,8 @@ module _ (m : List ℕ) (limit count k : ℕ) (is_limit : limit ≡ slice_index 
   part_long =
       length-take-le k (drop header_words m) (omega (arith, length-drop header_words m, headed.words, is_limit))
 
-  part_middle : middle part0 ≡ limit
-  part_middle = let l = part_long in omega arith
+  pub part_room : room part0 ≡ limit
+  part_room = let l = part_long in omega arith
 
   count_is : length (estate_of m).claimed ≡ count
   count_is = claims_counted m headed ∙ sym is_count
@@ -81,10 +83,10 @@ module _ (m : List ℕ) (limit count k : ℕ) (is_limit : limit ≡ slice_index 
   came : take count part0 ≡ (estate_of m).claimed
   came = let within : count ≤ k = omega (arith, headed.few, is_limit, is_count) in take-take count k (drop header_words m) within ∙ ap (λ n. take n (drop header_words m)) is_count
 
-  part_is : Stands m → part0 ≡ register (limits_of m) (estate_of m)
+  pub part_is : Stands m → part0 ≡ rows (limits_of m) (estate_of m)
   part_is s =
       let b = body _ (estate_of m) (rest_of m) s.fair.few in
-      rw (span, is_limit) (ap (λ ws. take (2 * slice_index m 0) (drop header_words ws)) s.laid ∙ b)
+      rw (span, is_limit) (ap (λ ws. take (3 * slice_index m 0) (drop header_words ws)) s.laid ∙ b)
 
   unwritten : put_mid header_words k m part0 ≡ m
   unwritten =
@@ -97,34 +99,35 @@ module _ (m : List ℕ) (limit count k : ℕ) (is_limit : limit ≡ slice_index 
       let room : header_words ≤ length m = omega (arith, headed.words) in
       bounded m _ (put_below header_words k 0 m part (omega arith) room) (drop-put_mid header_words k m part _ (omega (arith, span, is_limit)) room (long ∙ part_long))
 
-  pub claim_done : (c at : ℕ) (part : List ℕ) → Addition count c at part0 part → c ≤ most_cents → Does (claims c) m (slice_set (put_mid header_words k m part) 2 (count + 1)) (Ok count)
-  unfolding says Does
+  pub claim_done : (c at : ℕ) (part : List ℕ) → Enters count c part0 part (Some at) → c ≤ most_cents → Does (claims c) m (slice_set (put_mid header_words k m part) 2 (count + 1)) (Ok count)
+  unfolding says Does Enters
   claim_done c at part a few =
       let n = count_is in
-      let room : count < limit = omega (arith, a.room, part_middle) in
-      let same = a.inserted.carried.long ∙ length-set part0 count c in
+      let long = entered_long count c part0 part at a in
+      let room : count < limit = omega (arith, long.0, part_room) in
+      let same = long.1 in
       let b = put_bounded part same in
       let t : turned (limits_of m) (estate_of m) (claims c) ≡ 0 = grind (arith, nat_tests, is_limit) in (
         λ s.
             let cs = (estate_of m).claimed ++ c ∷ [] in
-            let new = register_added _ (estate_of m) s.fair.few c at part (rw (part_is s, sym n) at a) in
+            let new = rows_added _ (estate_of m) s.fair.few c at part (rw (part_is s, sym n) at a) in
             let long : count + 1 ≡ length cs = omega (arith, length_push (estate_of m).claimed c) in
             let w = claims_writes _ (estate_of m) (rest_of m) s.fair.few cs part (omega (arith, is_limit)) new in
             let k = span in
             let l = is_limit in
             let d = s.laid in
             served_by (claims c) m _ _ t (cc) (ap number (sym n)),
-        told_by (claims c) m (slice_set (put_mid header_words k m part) 2 (count + 1)) _ t (claims_told m headed k part (count + 1) _ (omega (arith, same, part_long)) (came_added count c at part0 part a ∙ ap (λ cs. cs ++ c ∷ []) came)) (ap number (sym n)),
+        told_by (claims c) m (slice_set (put_mid header_words k m part) 2 (count + 1)) _ t (claims_told m headed k part (count + 1) _ (omega (arith, same, part_long)) (entered_came count c part0 part at a ∙ ap (λ cs. cs ++ c ∷ []) came)) (ap number (sym n)),
         tt,
         bounded m _ (grind (arith, places, b.limit)) (drop-set-lt (words_asked (slice_index m 0)) (put_mid header_words k m part) 2 _ (omega arith) ∙ rw b.limit at b.rest),
       )
 
-  pub claim_full : (c : ℕ) (part : List ℕ) (t : TurnedAway) → middle part0 ≤ count → part ≡ part0 → c ≤ most_cents → t ≡ record { why = NoRoom; place = 0 } → Does (claims c) m (put_mid header_words k m part) (Err t)
-  unfolding Does
-  claim_full c part t room kept few is =
+  pub claim_full : (c : ℕ) (part : List ℕ) (t : TurnedAway) → Enters count c part0 part None → c ≤ most_cents → t ≡ record { why = NoRoom; place = 0 } → Does (claims c) m (put_mid header_words k m part) (Err t)
+  unfolding Does Enters
+  claim_full c part t e few is =
       let n = count_is in
-      let same : put_mid header_words k m part ≡ m = rw kept unwritten in
-      let full : limit ≤ count = omega (arith, part_middle) in
+      let same : put_mid header_words k m part ≡ m = rw e.1 unwritten in
+      let full : limit ≤ count = omega (arith, part_room, e.0) in
       rw same (
         refused_by (claims c) m _ (grind (arith, nat_tests, is_limit)) (rw is (grind (arith, nat_tests, is_limit))),
         kept_told (claims c) m _ (grind (arith, nat_tests, is_limit)) (rw is (grind (arith, nat_tests, is_limit))),
@@ -137,27 +140,28 @@ module _ (m : List ℕ) (limit count k : ℕ) (is_limit : limit ≡ slice_index 
   prove_done i x c part b few same =
       let a = b.2 in
       let n = count_is in
-      let there = a.there in
-      let long = a.replaced.carried.long ∙ length-set part0 i c in
+      let kept = amended_long count c part0 part i b.0 b.1 a in
+      let there = kept.0 in
+      let long = kept.2 in
       let t : turned (limits_of m) (estate_of m) (proves i c) ≡ 0 = grind (arith, nat_tests) in (
         λ s.
             let cs = slice_set (estate_of m).claimed i c in
             let long = length-set (estate_of m).claimed i c in
-            let new = register_changed _ (estate_of m) s.fair.few i c b.0 b.1 part (rw (part_is s, sym n) at a) in
+            let new = rows_changed _ (estate_of m) s.fair.few i c b.0 b.1 part (rw (part_is s, sym n) at a) in
             let w = proves_writes _ (estate_of m) (rest_of m) s.fair.few cs part (omega (arith, s.fair.few)) new long in
             let k = span in
             let l = is_limit in
             let d = s.laid in
             served_by (proves i c) m _ _ t (cc) (ap number same),
-        inl (told_by (proves i c) m (put_mid header_words k m part) _ t (proves_told m headed k part _ (omega (arith, long, part_long)) (rw is_count at (came_changed count i c b.0 b.1 part0 part a) ∙ ap (λ cs. slice_set cs i c) (rw is_count at came))) (ap number same)),
+        inl (told_by (proves i c) m (put_mid header_words k m part) _ t (proves_told m headed k part _ (omega (arith, long, part_long)) (rw is_count at (amended_came count c part0 part i b.0 b.1 a) ∙ ap (λ cs. slice_set cs i c) (rw is_count at came))) (ap number same)),
         tt,
         put_bounded part long,
       )
 
-  missing : (i : ℕ) → Stands m → (why : Unfit) → Unchanged count i part0 why → count ≤ i
-  missing i s unfit.NotThere u = omega (arith, u, part_middle, headed.few, is_limit, is_count)
+  missing : (i : ℕ) → Stands m → (why : Unfit) → Unchanged count i (register part0) why → count ≤ i
+  missing i s unfit.NotThere u = omega (arith, u, part_room, halves part0, headed.few, is_limit, is_count)
   missing i s unfit.OutOfOrder u =
-      absurd (register_ordered _ (estate_of m) s.fair.few i (rw (part_is s, sym count_is) at u))
+      absurd (rows_ordered _ (estate_of m) s.fair.few i (rw (part_is s, sym count_is) at u))
 
   pub prove_missing : (i c : ℕ) (part : List ℕ) (t : TurnedAway) → Unaltered count i part0 part → c ≤ most_cents → t ≡ record { why = NotThere; place = 0 } → Does (proves i c) m (put_mid header_words k m part) (Err t)
   unfolding Does Unaltered

@@ -7,25 +7,24 @@ use Rattle.std.proofs.lemmas.Grind.{common_steps, elements}
 use Rattle.std.proofs.Math.Seq.{take-set-lt}
 use Rattle.estate.specs.Order.{sorted}
 use Rattle.estate.specs.Estates.{Estate, new_estate, with_there, with_claimed}
-use Rattle.register.specs.Rows.{middle, kept, Addition, Change, Unchanged}
+use Rattle.register.specs.Rows.{Unchanged}
 use Rattle.register.specs.declared.rows.Unfit.TheVariants.{OutOfOrder}
-use Rattle.register.proofs.Keeping.{kept_long, adds, changes, never_out_of_order}
-use Rattle.estate.proofs.Ordered.{length-sorted}
-use Rattle.desk.specs.Memory.{header_words, spare, header, register, limits_for, layout, words_asked, limits_of, estate_of, rest_of, Headed}
+use Rattle.sums.specs.Ledger.{room, register, Entered, Amended}
+use Rattle.sums.specs.Laws.{Adds, Changes, NeverOutOfOrder, Reads}
+use Rattle.sums.specs.Trees.{IsTree}
+use Rattle.sums.specs.declared.tree.Tree.{Tree}
+use Rattle.sums.proofs.Ledgers.{ledger_long, ledger_none, adds, changes, ordered, reads}
+use Rattle.desk.specs.Memory.{header_words, spare, header, rows, limits_for, layout, words_asked, limits_of, estate_of, rest_of, Headed}
 
-kept_none : (ws : List ℕ) → kept ws [] ≡ ws
-unfolding sorted
-kept_none ws = take-append-drop (middle ws) ws
-
-zeros : (n : ℕ) → replicate (words_asked n) 0 ≡ 0 ∷ 0 ∷ 0 ∷ (spare ++ replicate (2 * n) 0)
+zeros : (n : ℕ) → replicate (words_asked n) 0 ≡ 0 ∷ 0 ∷ 0 ∷ (spare ++ replicate (3 * n) 0)
 unfolding spare
-zeros n = sym (replicate-append-replicate {A = ℕ} 64 (2 * n) 0)
+zeros n = sym (replicate-append-replicate {A = ℕ} 64 (3 * n) 0)
 
 pub opened : (n w : ℕ) (ws m : List ℕ) → w ≡ words_asked n → w ≤ length m → ws ≡ replicate (length (take w m)) 0 → slice_set (ws ++ drop w m) 0 n ≡ layout (limits_for n) new_estate ++ drop (words_asked n) m
-unfolding layout header register
+unfolding layout header rows
 opened n w ws m e room z =
     let k : length (take w m) ≡ w = grind (arith, places) in
-    rw (z, k, e, zeros n, kept_none (replicate (2 * n) 0)) refl
+    rw (z, k, e, zeros n, ledger_none (replicate (3 * n) 0)) refl
 
 -- three lists, the first two of known lengths
 module _ (xs ys zs : List ℕ) (a k : ℕ) (one : length xs ≡ a) (two : length ys ≡ k) where
@@ -41,8 +40,8 @@ module _ (xs ys zs : List ℕ) (a k : ℕ) (one : length xs ≡ a) (two : length
   drop-third : drop (a + k) ((xs ++ ys) ++ zs) ≡ zs
   drop-third = grind (arith, common_steps)
 
-middle-zeros : (n : ℕ) → middle (replicate (2 * n) 0) ≡ n
-middle-zeros n = let z = length-replicate {A = ℕ} (2 * n) 0 in omega arith
+room-zeros : (n : ℕ) → room (replicate (3 * n) 0) ≡ n
+room-zeros n = let z = length-replicate {A = ℕ} (3 * n) 0 in omega arith
 
 -- a desk with room for n claims
 module _ (n : ℕ) (e : Estate) (rest : List ℕ) (few : length e.claimed ≤ n) where
@@ -50,50 +49,42 @@ module _ (n : ℕ) (e : Estate) (rest : List ℕ) (few : length e.claimed ≤ n)
   unfolding header spare
   length-header = refl
 
-  length-register : length (register (limits_for n) e) ≡ 2 * n
-  unfolding register
-  length-register =
-      let m = middle-zeros n in
-      kept_long (replicate (2 * n) 0) e.claimed (omega arith) ∙ length-replicate {A = ℕ} (2 * n) 0
+  length-rows : length (rows (limits_for n) e) ≡ 3 * n
+  unfolding rows
+  length-rows =
+      let m = room-zeros n in
+      ledger_long (replicate (3 * n) 0) e.claimed (omega arith) ∙ length-replicate {A = ℕ} (3 * n) 0
 
-  pub body : take (2 * n) (drop header_words (layout (limits_for n) e ++ rest)) ≡ register (limits_for n) e
+  pub body : take (3 * n) (drop header_words (layout (limits_for n) e ++ rest)) ≡ rows (limits_for n) e
   unfolding layout
-  body = take-drop-second (header (limits_for n) e) (register (limits_for n) e) rest _ _ length-header length-register
+  body = take-drop-second (header (limits_for n) e) (rows (limits_for n) e) rest _ _ length-header length-rows
 
   pub behind : drop (words_asked n) (layout (limits_for n) e ++ rest) ≡ rest
   unfolding layout
-  behind = drop-third (header (limits_for n) e) (register (limits_for n) e) rest _ _ length-header length-register
+  behind = drop-third (header (limits_for n) e) (rows (limits_for n) e) rest _ _ length-header length-rows
 
-  pub put : (part : List ℕ) → put_mid header_words (2 * n) (layout (limits_for n) e ++ rest) part ≡ header (limits_for n) e ++ (part ++ rest)
+  pub put : (part : List ℕ) → put_mid header_words (3 * n) (layout (limits_for n) e ++ rest) part ≡ header (limits_for n) e ++ (part ++ rest)
   unfolding layout
   put part =
-      let front = take-first (header (limits_for n) e) (register (limits_for n) e) rest _ _ length-header length-register in
-      let back = drop-drop-third (header (limits_for n) e) (register (limits_for n) e) rest _ _ length-header length-register in
+      let front = take-first (header (limits_for n) e) (rows (limits_for n) e) rest _ _ length-header length-rows in
+      let back = drop-drop-third (header (limits_for n) e) (rows (limits_for n) e) rest _ _ length-header length-rows in
       rw (front, back) refl
 
-  laid : header (limits_for n) e ++ (register (limits_for n) e ++ rest) ≡ layout (limits_for n) e ++ rest
+  laid : header (limits_for n) e ++ (rows (limits_for n) e ++ rest) ≡ layout (limits_for n) e ++ rest
   unfolding layout
-  laid = sym (append_assoc (header (limits_for n) e) (register (limits_for n) e) rest)
+  laid = sym (append_assoc (header (limits_for n) e) (rows (limits_for n) e) rest)
 
--- a register begins with the claims as they came, and its second half with those in order
+-- a ledger begins with the claims as they came
 module _ (n : ℕ) (e : Estate) (few : length e.claimed ≤ n) where
-  as_they_came : (rest : List ℕ) → take (length e.claimed) (register (limits_for n) e ++ rest) ≡ e.claimed
-  unfolding register
+  as_they_came : (rest : List ℕ) → take (length e.claimed) (rows (limits_for n) e ++ rest) ≡ e.claimed
+  unfolding rows
   as_they_came rest = grind (arith, common_steps)
-
-  in_order : (rest : List ℕ) → take (length e.claimed) (drop n (register (limits_for n) e ++ rest)) ≡ sorted e.claimed
-  unfolding register
-  in_order rest =
-      let m = middle-zeros n in
-      let z = length-replicate {A = ℕ} (2 * n) 0 in
-      let k = length-sorted e.claimed in
-      grind (arith, common_steps)
 
 -- what is read
 module _ (n : ℕ) (e : Estate) (rest : List ℕ) (few : length e.claimed ≤ n) where
-  registered : drop header_words (layout (limits_for n) e ++ rest) ≡ register (limits_for n) e ++ rest
+  behind_header : drop header_words (layout (limits_for n) e ++ rest) ≡ rows (limits_for n) e ++ rest
   unfolding layout
-  registered = rw (append_assoc (header (limits_for n) e) (register (limits_for n) e) rest) (drop_at (header (limits_for n) e) (register (limits_for n) e ++ rest) header_words (length-header n e rest few))
+  behind_header = rw (append_assoc (header (limits_for n) e) (rows (limits_for n) e) rest) (drop_at (header (limits_for n) e) (rows (limits_for n) e ++ rest) header_words (length-header n e rest few))
 
   limit_read : slice_index (layout (limits_for n) e ++ rest) 0 ≡ n
   unfolding layout header
@@ -108,7 +99,7 @@ module _ (n : ℕ) (e : Estate) (rest : List ℕ) (few : length e.claimed ≤ n)
   count_read = refl
 
   pub estate_read : estate_of (layout (limits_for n) e ++ rest) ≡ e
-  estate_read = rw (there_read, count_read, registered, as_they_came n e few rest) refl
+  estate_read = rw (there_read, count_read, behind_header, as_they_came n e few rest) refl
 
   pub limits_read : limits_of (layout (limits_for n) e ++ rest) ≡ limits_for n
   limits_read = rw limit_read refl
@@ -119,36 +110,36 @@ module _ (n : ℕ) (e : Estate) (rest : List ℕ) (few : length e.claimed ≤ n)
   pub long_enough : words_asked n ≤ length (layout (limits_for n) e ++ rest)
   unfolding layout
   long_enough =
-      omega (arith, length-append {A = ℕ}, length-header n e rest few, length-register n e rest few)
+      omega (arith, length-append {A = ℕ}, length-header n e rest few, length-rows n e rest few)
 
-  pub order_read : take (length e.claimed) (drop (header_words + n) (layout (limits_for n) e ++ rest)) ≡ sorted e.claimed
-  order_read =
-      let r = registered in
-      let o = in_order n e few rest in
-      let d = drop-drop n header_words (layout (limits_for n) e ++ rest) in
-      cc
-
--- a register after a claim, and after a change
+-- a ledger after a claim, and after a change; and the tree in it
 module _ (n : ℕ) (e : Estate) (few : length e.claimed ≤ n) where
-  enough : length e.claimed ≤ middle (replicate (2 * n) 0)
-  enough = let m = middle-zeros n in omega arith
+  enough : length e.claimed ≤ room (replicate (3 * n) 0)
+  enough = let m = room-zeros n in omega arith
 
-  pub register_added : (c at : ℕ) (new : List ℕ) → Addition (length e.claimed) c at (register (limits_for n) e) new → new ≡ register (limits_for n) (with_claimed e (e.claimed ++ c ∷ []))
-  unfolding register
-  register_added c at new a = adds c at (replicate (2 * n) 0) e.claimed new enough a
+  pub rows_added : (c at : ℕ) (new : List ℕ) → Entered (length e.claimed) c at (rows (limits_for n) e) new → new ≡ rows (limits_for n) (with_claimed e (e.claimed ++ c ∷ []))
+  unfolding rows Adds
+  rows_added c at new a = adds c at (replicate (3 * n) 0) e.claimed new enough a
 
-  pub register_changed : (i c from to : ℕ) (new : List ℕ) → Change (length e.claimed) i c from to (register (limits_for n) e) new → new ≡ register (limits_for n) (with_claimed e (slice_set e.claimed i c))
-  unfolding register
-  register_changed i c from to new a = changes i c from to (replicate (2 * n) 0) e.claimed new enough a
+  pub rows_changed : (i c from to : ℕ) (new : List ℕ) → Amended (length e.claimed) i c from to (rows (limits_for n) e) new → new ≡ rows (limits_for n) (with_claimed e (slice_set e.claimed i c))
+  unfolding rows Changes
+  rows_changed i c from to new a = changes i c from to (replicate (3 * n) 0) e.claimed new enough a
 
-  pub register_ordered : (i : ℕ) → Unchanged (length e.claimed) i (register (limits_for n) e) OutOfOrder → ⊥
-  unfolding register
-  register_ordered i u = never_out_of_order i (replicate (2 * n) 0) e.claimed enough u
+  pub rows_ordered : (i : ℕ) → Unchanged (length e.claimed) i (register (rows (limits_for n) e)) OutOfOrder → ⊥
+  unfolding rows NeverOutOfOrder
+  rows_ordered i u = ordered i (replicate (3 * n) 0) e.claimed enough u
+
+  pub rows_read : (k : ℕ) (t : Tree) → k ≡ n → t.claims.now ≡ take (length e.claimed) (drop k (rows (limits_for n) e)) → t.sums.now ≡ take (length e.claimed) (drop (2 * k) (rows (limits_for n) e)) → IsTree t × (t.claims.now ≡ sorted e.claimed)
+  unfolding rows Reads
+  rows_read k t same claims sums =
+      let m = room-zeros n in
+      let here : k ≡ room (replicate (3 * n) 0) = omega arith in
+      reads (replicate (3 * n) 0) e.claimed t enough (rw here at claims) (rw here at sums)
 
 -- what each call writes
 module _ (n : ℕ) (e : Estate) (rest : List ℕ) where
   pub comes_writes : (x : ℕ) → slice_set (layout (limits_for n) e ++ rest) 1 x ≡ layout (limits_for n) (with_there e x) ++ rest
-  unfolding layout header register
+  unfolding layout header rows
   comes_writes x = refl
 
   counted_again : (cs xs : List ℕ) → slice_set (header (limits_for n) e ++ xs) 2 (length cs) ≡ header (limits_for n) (with_claimed e cs) ++ xs
@@ -159,15 +150,15 @@ module _ (n : ℕ) (e : Estate) (rest : List ℕ) where
   unfolding header
   same_count cs h = rw h refl
 
-  module _ (few : length e.claimed ≤ n) (cs part : List ℕ) (some : length cs ≤ n) (new : part ≡ register (limits_for n) (with_claimed e cs)) where
-    pub claims_writes : slice_set (put_mid header_words (2 * n) (layout (limits_for n) e ++ rest) part) 2 (length cs) ≡ layout (limits_for n) (with_claimed e cs) ++ rest
+  module _ (few : length e.claimed ≤ n) (cs part : List ℕ) (some : length cs ≤ n) (new : part ≡ rows (limits_for n) (with_claimed e cs)) where
+    pub claims_writes : slice_set (put_mid header_words (3 * n) (layout (limits_for n) e ++ rest) part) 2 (length cs) ≡ layout (limits_for n) (with_claimed e cs) ++ rest
     claims_writes =
         let p = put n e rest few part in
         let k = counted_again cs (part ++ rest) in
         let l = laid n (with_claimed e cs) rest some in
         cc
 
-    pub proves_writes : length cs ≡ length e.claimed → put_mid header_words (2 * n) (layout (limits_for n) e ++ rest) part ≡ layout (limits_for n) (with_claimed e cs) ++ rest
+    pub proves_writes : length cs ≡ length e.claimed → put_mid header_words (3 * n) (layout (limits_for n) e ++ rest) part ≡ layout (limits_for n) (with_claimed e cs) ++ rest
     proves_writes long =
         let p = put n e rest few part in
         let k = same_count cs long in
@@ -176,32 +167,6 @@ module _ (n : ℕ) (e : Estate) (rest : List ℕ) where
 
 pub put_below : (a k i : ℕ) (xs ys : List ℕ) → i < a → a ≤ length xs → slice_index (put_mid a k xs ys) i ≡ slice_index xs i
 put_below a k i xs ys less room = grind (arith, places)
-
--- what is the same below a place has the same words before it
-same_front : (n : ℕ) (xs ys : List ℕ) → n ≤ length xs → length xs ≡ length ys → ((k : ℕ) → k < n → slice_index xs k ≡ slice_index ys k) → take n xs ≡ take n ys
-same_front n xs ys few long same =
-    ext_get_or 0 _ _ (grind (arith, places)) (λ k h.
-    let at = same k (omega (arith, h, length-take n xs)) in
-    grind (arith, places))
-
--- of any register, the claims as they came
-pub came_added : (n c at : ℕ) (ws new : List ℕ) → Addition n c at ws new → take (n + 1) new ≡ take n ws ++ c ∷ []
-came_added n c at ws new a =
-    let room = a.room in
-    let long = a.inserted.carried.long in
-    let wide = length-set ws n c in
-    let front = same_front (n + 1) new (slice_set ws n c) (omega arith) long (λ k h. a.inserted.carried.below k (omega (arith, a.inserted.fits.above)) (omega arith)) in
-    let last : take (n + 1) (slice_set ws n c) ≡ take n ws ++ c ∷ [] = grind (arith, elements) in
-    front ∙ last
-
-pub came_changed : (n i c from to : ℕ) (ws new : List ℕ) → Change n i c from to ws new → take n new ≡ slice_set (take n ws) i c
-came_changed n i c from to ws new a =
-    let room = a.room in
-    let there = a.there in
-    let long = a.replaced.carried.long in
-    let wide = length-set ws i c in
-    let front = same_front n new (slice_set ws i c) (omega arith) long (λ k h. a.replaced.carried.below k (omega (arith, a.replaced.goes.above)) (omega (arith, a.replaced.stood.fits.above))) in
-    front ∙ take-set-lt n ws i c there
 
 -- of any memory whose header may be a desk's
 module _ (m : List ℕ) (h : Headed m) where

@@ -2,7 +2,7 @@
 use Rattle.std.specs.Prelude.{◌≡◌, ℕ, ◌+◌, ◌-◌, ◌*◌, ◌≤◌, List, ◌∷◌, ◌++◌, length, take, drop, replicate, slice_index}
 use Rattle.estate.specs.Limits.{Limits, most_creditors, most_there}
 use Rattle.estate.specs.Estates.{Estate, new_estate, with_there, with_claimed, counted, Within}
-use Rattle.register.specs.Rows.{kept}
+use Rattle.sums.specs.Ledger.{ledger}
 
 -- the words of the header: the limit, what is there and how many claims there are, and spare ones for what may come
 abbrev pub header_words : ℕ
@@ -14,16 +14,16 @@ spare = replicate (header_words - 3) 0
 unfoldable pub header : Limits → Estate → List ℕ
 header l e = l.creditors ∷ e.there ∷ length e.claimed ∷ spare
 
--- behind it a register with room for as many claims as the limit says, in words that were 0
-unfoldable pub register : Limits → Estate → List ℕ
-register l e = kept (replicate (2 * l.creditors) 0) e.claimed
+-- behind it a ledger with room for as many claims as the limit says, in words that were 0
+unfoldable pub rows : Limits → Estate → List ℕ
+rows l e = ledger (replicate (3 * l.creditors) 0) e.claimed
 
 unfoldable pub layout : Limits → Estate → List ℕ
-layout l e = header l e ++ register l e
+layout l e = header l e ++ rows l e
 
 -- how many words a desk for so many creditors asks for, and how many bytes for an answer
 abbrev pub words_asked : ℕ → ℕ
-words_asked n = header_words + 2 * n
+words_asked n = header_words + 3 * n
 
 abbrev pub bytes_asked : ℕ → ℕ
 bytes_asked n = 24 + 8 * n

@@ -3,7 +3,8 @@ use Rattle.std.specs.Prelude.{◌≡◌, ℕ, ◌<◌, List, length, Ok, Err, Re
 use Rattle.level.specs.declared.closed.Terms.{Terms}
 use Rattle.shares.specs.declared.written.Shares.{Shares}
 use Rattle.shares.specs.Laws.{TermsFor}
-use Rattle.register.specs.Rows.{Change, Unchanged}
+use Rattle.register.specs.Rows.{Unchanged}
+use Rattle.sums.specs.Ledger.{register, Amended}
 use Rattle.register.specs.declared.rows.Unfit.{Unfit}
 use Rattle.wire.specs.Answers.{answer_row, Sendable}
 use Rattle.wire.specs.Written.{Stands as IsWritten}
@@ -30,13 +31,13 @@ Termed m t = Stands m → (ks : List ℕ) × TermsFor (estate_of m) ks t
 unfoldable pub Parted : List ℕ → Shares → Type 0
 Parted m s = Termed m s.terms × (s.claims.now ≡ (estate_of m).claimed)
 
--- the words ws of a register of n claims have become new: with another claim at place i
+-- the words ws of a ledger of n claims have become new: with another claim at place i
 unfoldable pub Altered : ℕ → ℕ → ℕ → List ℕ → List ℕ → Type 0
-Altered n i c ws new = (from to : ℕ) × Change n i c from to ws new
+Altered n i c ws new = (from to : ℕ) × Amended n i c from to ws new
 
 -- or as they were, since that does not fit
 unfoldable pub Unaltered : ℕ → ℕ → List ℕ → List ℕ → Type 0
-Unaltered n i ws new = (why : Unfit) × Unchanged n i ws why × (new ≡ ws)
+Unaltered n i ws new = (why : Unfit) × Unchanged n i (register ws) why × (new ≡ ws)
 
 -- a number, or a call that is turned away, as an answer
 abbrev pub outcome : Result ℕ TurnedAway → Answer

@@ -2,13 +2,12 @@
 ghost use Rattle.std.specs.Prelude.{◌≡◌, ◌≤◌, IfSome, IfNone};
 ghost use Rattle.estate.specs.Calls.{claims, proves, comes};
 ghost use Rattle.estate.specs.Limits.{most_cents};
-ghost use Rattle.register.specs.Rows.{Added};
 ghost use Rattle.desk.specs.Steps.{Reads, Altered, Unaltered, Does};
 
 use crate::header::{COUNT, HEADER, Header, THERE};
 use crate::opening::refused;
 use estate::MOST_THERE;
-use register::{Moved, Register};
+use register::Moved;
 use wire::{Place, Refusal, TurnedAway};
 
 impl Header {
@@ -19,8 +18,8 @@ impl Header {
         requires moderate { cents ≤ most_cents }
         ensures { Does (claims cents) mem.old mem.new result }
     {
-        let end = HEADER + 2 * self.limit;
-        let Some(_) = add(&mut mem[HEADER..end], self.count, cents) else {
+        let end = HEADER + 3 * self.limit;
+        let Some(_) = sums::add(&mut mem[HEADER..end], self.count, cents) else {
             return Err(refused(Refusal::NoRoom, 0));
         };
         let count = self.count as u64;
@@ -35,7 +34,7 @@ impl Header {
         requires moderate { cents ≤ most_cents }
         ensures { Does (proves place cents) mem.old mem.new result }
     {
-        let end = HEADER + 2 * self.limit;
+        let end = HEADER + 3 * self.limit;
         let Some(_) = change(&mut mem[HEADER..end], self.count, place as usize, cents) else {
             return Err(refused(Refusal::NotThere, 0));
         };
@@ -57,18 +56,11 @@ impl Header {
     }
 }
 
-// Adds a claim to a register of so many.
-fn add(rows: &mut [u64], count: usize, cents: u64) -> Option<usize>
-    ensures { Added count cents rows.old rows.new result }
-{
-    Register::new(rows, count).add(cents)
-}
-
-// Changes a claim of a register of so many.
-#[tactic(auto, unfolding(crate::specs::Steps::Altered, crate::specs::Steps::Unaltered))]
+// Changes a claim of a ledger of so many.
+#[tactic(auto, unfolding(crate::specs::Steps::Altered, crate::specs::Steps::Unaltered, sums::specs::Ledger::Amends))]
 fn change(rows: &mut [u64], count: usize, i: usize, cents: u64) -> Option<Moved>
     ensures some { IfSome result (λ _. Altered count i cents rows.old rows.new) }
     ensures none { IfNone result (Unaltered count i rows.old rows.new) }
 {
-    Register::new(rows, count).change(i, cents).ok()
+    sums::change(rows, count, i, cents).ok()
 }

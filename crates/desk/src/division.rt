@@ -8,8 +8,9 @@ use crate::calls::send;
 use crate::header::{HEADER, Header};
 use crate::opening::refused;
 use cents::Cents;
-use level::{Terms, terms_of};
+use level::Terms;
 use shares::Shares;
+use sums::tree_of;
 use wire::{Refusal, TurnedAway};
 
 impl Header {
@@ -25,14 +26,15 @@ impl Header {
         }
     }
 
-    // The terms, found by the claims in order.
+    // The terms, found by the sums over the claims in order.
     #[tactic(auto, using(crate::proofs::Dividing::terms_known))]
     fn terms(self, mem: &[u64]) -> Terms
         requires { Reads self mem.now }
         ensures { Termed mem.now result }
     {
-        let start = HEADER + self.limit;
-        terms_of(self.there, &mem[start..start + self.count]).unwrap()
+        let end = HEADER + 3 * self.limit;
+        let tree = tree_of(&mem[HEADER..end], self.count).unwrap();
+        tree.terms(self.there).unwrap()
     }
 
     // Writes the whole cents of all.

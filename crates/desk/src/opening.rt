@@ -25,7 +25,7 @@ pub fn asked(limit: usize) -> Result<Loan, TurnedAway>
         return Err(refused(Refusal::NotLent, 0));
     }
     Ok(Loan {
-        words: HEADER + 2 * limit,
+        words: HEADER + 3 * limit,
         bytes: 24 + 8 * limit,
     })
 }

@@ -44,7 +44,7 @@ module _ (n a b : ℕ) (ws front new : List ℕ) (r : Resummed n a b ws front ne
   resummed_front : (k : ℕ) → k ≤ n → take k new ≡ take k front
   resummed_front k l = ap (take k) r.words ∙ take-append-le k front _ (omega (arith, long, two_long))
 
-halves : (ws : List ℕ) → middle (register ws) ≡ room ws
+pub halves : (ws : List ℕ) → middle (register ws) ≡ room ws
 halves ws = let long = length-take-le (2 * room ws) ws (omega arith) in omega arith
 
 module _ (n c : ℕ) (ws new : List ℕ) where

@@ -2,7 +2,7 @@
 use Rattle.std.proofs.Common.{◌≡◌, ℕ, suc, zero, ◌+◌, ◌-◌, ◌*◌, ◌/◌, ◌^◌, ◌<◌, ◌≤◌, List, [], ◌∷◌, ◌++◌, length, take, drop, set, slice_index, slice_set, min, max, length-append, length-drop, get_or-drop, sum, refl, sym, ap, ◌∙◌, arith}
 use mathlib.Core.Logic.{◌⊎◌, inl, inr}
 use Rattle.std.proofs.Math.Logic.{⊎_elim}
-use Rattle.std.proofs.lemmas.List.{places, take_at, drop_at, ext_get_or, length-take, length-take-le, get_or-take, get_or-set_other, get_or_append_left, length-set, length_push}
+use Rattle.std.proofs.lemmas.List.{places, take-append-drop, take_at, drop_at, ext_get_or, length-take, length-take-le, get_or-take, get_or-set_other, get_or_append_left, length-set, length_push}
 use Rattle.std.proofs.lemmas.Bool.Decides.{nat_tests}
 use Rattle.estate.specs.Order.{sorted}
 use Rattle.estate.proofs.Ordered.{length-sorted, rising_sorted}
@@ -70,7 +70,7 @@ module _ (us cs : List ℕ) (few : length cs ≤ room us) where
   row_long : length row ≡ length us - 2 * room us
   row_long = omega (arith, length-append {A = ℕ}, sums_long, length-drop (length (sums_of (sorted cs))) (drop (2 * room us) us), length-drop (2 * room us) us)
 
-  ledger_long : length (ledger us cs) ≡ length us
+  pub ledger_long : length (ledger us cs) ≡ length us
   ledger_long = omega (arith, length-append {A = ℕ}, front_long, row_long)
 
   first_two : register (ledger us cs) ≡ kept (register us) cs
@@ -82,6 +82,12 @@ module _ (us cs : List ℕ) (few : length cs ≤ room us) where
   -- a register is within the memory's first two rows
   fits : length cs ≤ middle (register us)
   fits = omega (arith, halves)
+
+-- a ledger of no claims
+pub ledger_none : (us : List ℕ) → ledger us [] ≡ us
+unfolding sorted sums_of
+ledger_none us =
+    rw (take-append-drop (middle (register us)) (register us)) (take-append-drop (2 * room us) us)
 
 -- the claims in order in a register
 order_read : (ws cs : List ℕ) → length cs ≤ middle ws → take (length cs) (drop (middle ws) (kept ws cs)) ≡ sorted cs
