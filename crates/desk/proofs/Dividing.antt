@@ -1,5 +1,5 @@
 -- The terms of a division are found by the sums over claims in order that a desk keeps. Assumes nothing.
-use Rattle.std.proofs.Common.{◌≡◌, ℕ, ◌+◌, ◌-◌, ◌*◌, ◌<◌, ◌≤◌, List, length, take, drop, Some, Option, sym, ap, ◌∙◌, arith}
+use Rattle.std.proofs.Common.{◌≡◌, ℕ, ◌*◌, List, length, take, drop, Some, Option, sym, ◌∙◌}
 use Rattle.std.specs.Prelude.{slice_index}
 use Rattle.estate.specs.Order.{sorted}
 use Rattle.estate.proofs.Ordered.{rising_sorted}
@@ -9,7 +9,7 @@ use Rattle.level.specs.declared.closed.Terms.{Terms}
 use Rattle.sums.specs.Ledger.{room}
 use Rattle.sums.specs.Trees.{IsTree}
 use Rattle.sums.specs.declared.tree.Tree.{Tree}
-use Rattle.desk.specs.Memory.{header_words, rows, limits_of, estate_of, Headed, Stands}
+use Rattle.desk.specs.Memory.{header_words, estate_of, Headed, Stands}
 use Rattle.desk.specs.Steps.{Termed}
 use Rattle.desk.proofs.Words.{claims_counted, rows_read}
 use Rattle.desk.proofs.Keeping.{part_room, part_is}

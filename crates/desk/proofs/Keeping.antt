@@ -1,5 +1,5 @@
 -- What the calls that change a desk leave. Assumes nothing.
-use Rattle.std.proofs.Common.{◌≡◌, ℕ, false, ◌==◌, ◌+◌, ◌*◌, ◌<◌, ◌≤◌, List, [], ◌∷◌, ◌++◌, length, take, drop, slice_index, slice_set, Some, None, Ok, Err, sym, refl, ap, ◌∙◌, arith}
+use Rattle.std.proofs.Common.{◌≡◌, ℕ, false, ◌==◌, ◌+◌, ◌*◌, ◌<◌, ◌≤◌, List, [], ◌∷◌, ◌++◌, length, take, drop, slice_index, slice_set, Ok, Err, sym, refl, ap, ◌∙◌, arith}
 use borrow.Rule.Slice.PartMut.{put_mid}
 use Rattle.std.proofs.lemmas.List.{places, take-append-drop, take-take, length_push, drop-set-lt, length-set, length-take-le, length-drop}
 use Rattle.std.proofs.lemmas.Slice.{drop-put_mid}
@@ -14,12 +14,12 @@ use Rattle.estate.specs.Right.{says}
 use Rattle.register.specs.Rows.{Unchanged}
 use Rattle.register.specs.declared.rows.Unfit.{Unfit}
 use Rattle.register.specs.declared.rows.Unfit.TheVariants as unfit
-use Rattle.sums.specs.Ledger.{room, register, Enters}
+use Rattle.sums.specs.Ledger.{room, register}
 use Rattle.sums.proofs.Came.{halves, entered_long, entered_came, amended_long, amended_came}
 use Rattle.wire.specs.declared.refusals.TurnedAway.{TurnedAway}
 use Rattle.wire.specs.declared.refusals.Refusal.TheVariants.{NoRoom, NotThere}
 use Rattle.desk.specs.Memory.{header_words, rows, words_asked, layout, limits_of, estate_of, rest_of, Headed, Stands}
-use Rattle.desk.specs.Steps.{Altered, Unaltered, Does}
+use Rattle.desk.specs.Steps.{Grown, Full, Altered, Unaltered, Does}
 use Rattle.desk.specs.Calling.{Served, SameBounds, AsTold}
 use Rattle.desk.proofs.Words.{claims_counted, put_below, comes_told, claims_told, proves_told, rows_added, rows_changed, rows_ordered, comes_writes, claims_writes, proves_writes, body}
 
@@ -99,9 +99,9 @@ module _ (m : List ℕ) (limit count k : ℕ) (is_limit : limit ≡ slice_index 
       let room : header_words ≤ length m = omega (arith, headed.words) in
       bounded m _ (put_below header_words k 0 m part (omega arith) room) (drop-put_mid header_words k m part _ (omega (arith, span, is_limit)) room (long ∙ part_long))
 
-  pub claim_done : (c at : ℕ) (part : List ℕ) → Enters count c part0 part (Some at) → c ≤ most_cents → Does (claims c) m (slice_set (put_mid header_words k m part) 2 (count + 1)) (Ok count)
-  unfolding says Does Enters
-  claim_done c at part a few =
+  pub claim_done : (c : ℕ) (part : List ℕ) → Grown count c part0 part → c ≤ most_cents → Does (claims c) m (slice_set (put_mid header_words k m part) 2 (count + 1)) (Ok count)
+  unfolding says Does Grown
+  claim_done c part (at, a) few =
       let n = count_is in
       let long = entered_long count c part0 part at a in
       let room : count < limit = omega (arith, long.0, part_room) in
@@ -122,8 +122,8 @@ module _ (m : List ℕ) (limit count k : ℕ) (is_limit : limit ≡ slice_index 
         bounded m _ (grind (arith, places, b.limit)) (drop-set-lt (words_asked (slice_index m 0)) (put_mid header_words k m part) 2 _ (omega arith) ∙ rw b.limit at b.rest),
       )
 
-  pub claim_full : (c : ℕ) (part : List ℕ) (t : TurnedAway) → Enters count c part0 part None → c ≤ most_cents → t ≡ record { why = NoRoom; place = 0 } → Does (claims c) m (put_mid header_words k m part) (Err t)
-  unfolding Does Enters
+  pub claim_full : (c : ℕ) (part : List ℕ) (t : TurnedAway) → Full count part0 part → c ≤ most_cents → t ≡ record { why = NoRoom; place = 0 } → Does (claims c) m (put_mid header_words k m part) (Err t)
+  unfolding Does Full
   claim_full c part t e few is =
       let n = count_is in
       let same : put_mid header_words k m part ≡ m = rw e.1 unwritten in

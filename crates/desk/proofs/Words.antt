@@ -1,10 +1,9 @@
 -- The words of a desk: what is read of them, and what each call writes. All that opens the layout stands here. Assumes
 -- nothing.
-use Rattle.std.proofs.Common.{◌≡◌, ℕ, ◌+◌, ◌*◌, ◌<◌, ◌≤◌, List, [], ◌∷◌, ◌++◌, length, take, drop, replicate, slice_set, sym, refl, ◌∙◌, arith, append_assoc, length-append, slice_index, drop-drop}
+use Rattle.std.proofs.Common.{◌≡◌, ℕ, ◌+◌, ◌*◌, ◌<◌, ◌≤◌, List, [], ◌∷◌, ◌++◌, length, take, drop, replicate, slice_set, sym, refl, ◌∙◌, arith, append_assoc, length-append, slice_index}
 use borrow.Rule.Slice.PartMut.{put_mid}
-use Rattle.std.proofs.lemmas.List.{places, ext_get_or, length-set, length-take, take-append-drop, replicate-append-replicate, length-replicate, drop_at, length-take-le, length-drop, drop-set-lt, take-append-le, get_or-set_same, get_or-set_other}
-use Rattle.std.proofs.lemmas.Grind.{common_steps, elements}
-use Rattle.std.proofs.Math.Seq.{take-set-lt}
+use Rattle.std.proofs.lemmas.List.{places, replicate-append-replicate, length-replicate, drop_at, length-take-le, length-drop, drop-set-lt, take-append-le, get_or-set_same, get_or-set_other}
+use Rattle.std.proofs.lemmas.Grind.{common_steps}
 use Rattle.estate.specs.Order.{sorted}
 use Rattle.estate.specs.Estates.{Estate, new_estate, with_there, with_claimed}
 use Rattle.register.specs.Rows.{Unchanged}

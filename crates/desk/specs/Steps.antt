@@ -1,10 +1,10 @@
 -- What the functions behind a call read and leave. Assumes nothing.
-use Rattle.std.specs.Prelude.{◌≡◌, ℕ, ◌<◌, List, length, Ok, Err, Result, IfErr, slice_index}
+use Rattle.std.specs.Prelude.{◌≡◌, ℕ, ◌<◌, ◌≤◌, List, length, Ok, Err, Result, IfErr, slice_index}
 use Rattle.level.specs.declared.closed.Terms.{Terms}
 use Rattle.shares.specs.declared.written.Shares.{Shares}
 use Rattle.shares.specs.Laws.{TermsFor}
 use Rattle.register.specs.Rows.{Unchanged}
-use Rattle.sums.specs.Ledger.{register, Amended}
+use Rattle.sums.specs.Ledger.{room, register, Entered, Amended}
 use Rattle.register.specs.declared.rows.Unfit.{Unfit}
 use Rattle.wire.specs.Answers.{answer_row, Sendable}
 use Rattle.wire.specs.Written.{Stands as IsWritten}
@@ -31,11 +31,19 @@ Termed m t = Stands m → (ks : List ℕ) × TermsFor (estate_of m) ks t
 unfoldable pub Parted : List ℕ → Shares → Type 0
 Parted m s = Termed m s.terms × (s.claims.now ≡ (estate_of m).claimed)
 
--- the words ws of a ledger of n claims have become new: with another claim at place i
+-- the words ws of a ledger of n claims have become new: with one more claim, last
+unfoldable pub Grown : ℕ → ℕ → List ℕ → List ℕ → Type 0
+Grown n c ws new = (at : ℕ) × Entered n c at ws new
+
+-- or are as they were, since there is no room
+unfoldable pub Full : ℕ → List ℕ → List ℕ → Type 0
+Full n ws new = (room ws ≤ n) × (new ≡ ws)
+
+-- or have become new with another claim at place i
 unfoldable pub Altered : ℕ → ℕ → ℕ → List ℕ → List ℕ → Type 0
 Altered n i c ws new = (from to : ℕ) × Amended n i c from to ws new
 
--- or as they were, since that does not fit
+-- or are as they were, since that does not fit
 unfoldable pub Unaltered : ℕ → ℕ → List ℕ → List ℕ → Type 0
 Unaltered n i ws new = (why : Unfit) × Unchanged n i (register ws) why × (new ≡ ws)
 

@@ -2,7 +2,7 @@
 ghost use Rattle.std.specs.Prelude.{◌≡◌, ◌≤◌, IfSome, IfNone};
 ghost use Rattle.estate.specs.Calls.{claims, proves, comes};
 ghost use Rattle.estate.specs.Limits.{most_cents};
-ghost use Rattle.desk.specs.Steps.{Reads, Altered, Unaltered, Does};
+ghost use Rattle.desk.specs.Steps.{Reads, Grown, Full, Altered, Unaltered, Does};
 
 use crate::header::{COUNT, HEADER, Header, THERE};
 use crate::opening::refused;
@@ -19,7 +19,7 @@ impl Header {
         ensures { Does (claims cents) mem.old mem.new result }
     {
         let end = HEADER + 3 * self.limit;
-        let Some(_) = sums::add(&mut mem[HEADER..end], self.count, cents) else {
+        let Some(_) = add(&mut mem[HEADER..end], self.count, cents) else {
             return Err(refused(Refusal::NoRoom, 0));
         };
         let count = self.count as u64;
@@ -54,6 +54,15 @@ impl Header {
         mem[THERE] = there;
         Ok(there)
     }
+}
+
+// Adds a claim to a ledger of so many.
+#[tactic(auto, unfolding(crate::specs::Steps::Grown, crate::specs::Steps::Full, sums::specs::Ledger::Enters))]
+fn add(rows: &mut [u64], count: usize, cents: u64) -> Option<usize>
+    ensures some { IfSome result (λ _. Grown count cents rows.old rows.new) }
+    ensures none { IfNone result (Full count rows.old rows.new) }
+{
+    sums::add(rows, count, cents)
 }
 
 // Changes a claim of a ledger of so many.

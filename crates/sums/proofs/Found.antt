@@ -1,6 +1,6 @@
 -- What is found going down a tree: all claims together, and the level. Assumes nothing.
 use Rattle.std.proofs.Common.{◌≡◌, ℕ, suc, zero, ◌+◌, ◌-◌, ◌*◌, ◌^◌, ◌<◌, ◌≤◌, List, [], ◌∷◌, length, take, drop, sum, slice_index, length-drop, get_or-drop, All, mul-le-mul_left, refl, sym, ap, ◌∙◌, arith}
-use mathlib.Core.Logic.{◌⊎◌, inl, inr}
+use mathlib.Core.Logic.{inl, inr}
 use Rattle.std.specs.List.Sorted.{IsNonDecreasing}
 use Rattle.std.proofs.lemmas.List.{places, length-take, take-take, take_all, drop-take}
 use Rattle.std.proofs.lemmas.List.Elements.{All-tail}
@@ -9,13 +9,13 @@ use Rattle.std.proofs.lemmas.List.Sums.{sum_by-take-drop}
 use Rattle.std.proofs.Math.Pow.{pow_mono}
 use Rattle.std.proofs.lemmas.Nat.{pow_pos}
 use Rattle.std.proofs.lemmas.Bool.Decides.{nat_tests}
-use Rattle.estate.specs.Level.{Level, fill}
+use Rattle.estate.specs.Level.{fill}
 use Rattle.estate.proofs.Rows.{sum-cons}
 use Rattle.estate.proofs.Ordered.{rising_head, rising_tail}
 use Rattle.level.specs.Words.{held}
 use Rattle.level.specs.Levels.{Fills}
 use Rattle.level.specs.declared.filling.Fraction.{Fraction}
-use Rattle.sums.specs.Nodes.{node, AreSums}
+use Rattle.sums.specs.Nodes.{AreSums}
 use Rattle.sums.specs.Descending.{IsHeight, IsMiddle, Totals, EndsWithin, Descends, Sought}
 use Rattle.sums.proofs.Nodes.{height_room, node_middle, node_right}
 

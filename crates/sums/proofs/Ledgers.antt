@@ -7,16 +7,13 @@ use Rattle.std.proofs.lemmas.Bool.Decides.{nat_tests}
 use Rattle.estate.specs.Order.{sorted}
 use Rattle.estate.proofs.Ordered.{length-sorted, rising_sorted}
 use Rattle.register.specs.Row.{Carried}
-use Rattle.register.specs.Rows.{middle, kept, over, Addition, Change, Unchanged}
-use Rattle.register.specs.declared.rows.Unfit.TheVariants.{OutOfOrder}
+use Rattle.register.specs.Rows.{middle, kept, over}
 use Rattle.register.proofs.Keeping.{kept_long, kept_middle, adds as register_adds, changes as register_changes, never_out_of_order as register_ordered}
 use Rattle.level.specs.Words.{held}
-use Rattle.sums.specs.Nodes.{first_in, first, node, AreSums, sums_of}
+use Rattle.sums.specs.Nodes.{first_in, first, node, sums_of}
 use Rattle.sums.specs.Renewing.{Outside, Renewal}
-use Rattle.sums.specs.Ledger.{room, register, ledger, Resummed, Entered, Amended}
-use Rattle.sums.specs.Trees.{IsTree}
+use Rattle.sums.specs.Ledger.{room, register, ledger, Resummed}
 use Rattle.sums.specs.Laws.{Adds, Changes, NeverOutOfOrder, Reads}
-use Rattle.sums.specs.declared.tree.Tree.{Tree}
 use Rattle.sums.proofs.Nodes.{sums_are, are_sums}
 
 first_in_below : (h j : ℕ) → first_in h j ≤ j

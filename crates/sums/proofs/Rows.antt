@@ -1,12 +1,12 @@
 -- A ledger after a claim, and after a change. Assumes nothing.
-use Rattle.std.proofs.Common.{◌≡◌, ℕ, ◌+◌, ◌-◌, ◌*◌, ◌/◌, ◌<◌, ◌≤◌, List, ◌++◌, length, take, drop, min, max, Some, None, Ok, Err, Option, Result, refl, sym, ap, ◌∙◌, arith}
+use Rattle.std.proofs.Common.{◌≡◌, ℕ, ◌+◌, ◌-◌, ◌*◌, ◌≤◌, List, ◌++◌, length, take, drop, min, max, Some, None, Ok, Err, Result, refl, sym, ap, ◌∙◌, arith}
 use Rattle.std.specs.Prelude.{IsErrAnd}
 use Rattle.std.proofs.lemmas.List.{take_at, drop_at}
 use Rattle.register.specs.Rows.{middle, Addition, Change, Unchanged}
 use Rattle.register.specs.declared.row.Moved.{Moved}
 use Rattle.register.specs.declared.rows.Unfit.{Unfit}
-use Rattle.sums.specs.Renewing.{Renewal, Renewed}
-use Rattle.sums.specs.Ledger.{room, register, Resummed, Entered, Enters, Amended, Amends}
+use Rattle.sums.specs.Renewing.{Renewed}
+use Rattle.sums.specs.Ledger.{room, register, Resummed, Enters, Amends}
 
 -- rows of words of the same length, of which the first two are the register
 module _ (ws two row : List ℕ) (rows : ws ≡ two ++ row) (long : length two ≡ 2 * room ws) where

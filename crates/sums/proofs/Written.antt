@@ -1,14 +1,14 @@
 -- What is renewed of a tree after some claims have changed. Assumes nothing.
-use Rattle.std.proofs.Common.{◌≡◌, ℕ, suc, zero, ◌+◌, ◌-◌, ◌*◌, ◌^◌, ◌<◌, ◌≤◌, List, [], ◌∷◌, ◌++◌, length, take, drop, set, sum, slice_index, length-drop, length-append, append_assoc, get_or-drop, refl, sym, ap, ◌∙◌, subst, arith}
+use Rattle.std.proofs.Common.{◌≡◌, ℕ, suc, ◌+◌, ◌-◌, ◌^◌, ◌<◌, ◌≤◌, List, [], ◌∷◌, ◌++◌, length, take, drop, set, sum, slice_index, length-drop, length-append, append_assoc, get_or-drop, refl, sym, ◌∙◌, subst, arith}
 use mathlib.Core.Logic.{◌⊎◌, inl, inr}
 use Rattle.std.proofs.Math.Logic.{⊎_elim}
 use borrow.Rule.Slice.PartMut.{put_mid}
-use Rattle.std.proofs.lemmas.List.{places, length-take, take_at, take_all, take_more, drop_all, append-nil, ext_get_or, length-set, length-take-le, get_or-take}
+use Rattle.std.proofs.lemmas.List.{places, length-take, take_at, take_all, take_more, drop_all, append-nil, length-set, length-take-le, get_or-take}
 use Rattle.std.proofs.lemmas.List.Sums.{sum_by_more}
 use Rattle.std.proofs.lemmas.Grind.{elements}
 use Rattle.std.proofs.lemmas.Bool.{cases_lt}
 use Rattle.level.specs.Words.{held}
-use Rattle.sums.specs.Nodes.{first, node, AreSums}
+use Rattle.sums.specs.Nodes.{node, AreSums}
 use Rattle.sums.specs.Descending.{IsMiddle, Totals}
 use Rattle.sums.specs.Renewing.{Outside, Renewal, Renewed}
 use Rattle.sums.proofs.Nodes.{first_middle, first_right, node_middle, node_left, node_right}

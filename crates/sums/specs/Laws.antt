@@ -5,7 +5,6 @@ use Rattle.estate.specs.Order.{sorted}
 use Rattle.register.specs.Rows.{Unchanged}
 use Rattle.register.specs.declared.rows.Unfit.TheVariants.{OutOfOrder}
 use Rattle.sums.specs.Ledger.{room, register, ledger, Entered, Amended}
-use Rattle.sums.specs.Nodes.{sums_of}
 use Rattle.sums.specs.Trees.{IsTree}
 use Rattle.sums.specs.declared.tree.Tree.{Tree}
 

@@ -1,5 +1,4 @@
 -- A tree over claims, and what is found by it. Assumes nothing.
-use Rattle.std.specs.Prelude.{◌≡◌, ℕ, ◌<◌, ◌≤◌, List}
 use Rattle.std.specs.List.Sorted.{IsNonDecreasing}
 use Rattle.sums.specs.Nodes.{AreSums}
 use Rattle.sums.specs.declared.tree.Tree.{Tree}
