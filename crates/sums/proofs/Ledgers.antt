@@ -10,20 +10,11 @@ use Rattle.register.specs.Row.{Carried}
 use Rattle.register.specs.Rows.{middle, kept, over}
 use Rattle.register.proofs.Keeping.{kept_long, kept_middle, adds as register_adds, changes as register_changes, never_out_of_order as register_ordered}
 use Rattle.level.specs.Words.{held}
-use Rattle.sums.specs.Nodes.{first_in, first, node, sums_of}
+use Rattle.sums.specs.Nodes.{first, node, sums_of}
 use Rattle.sums.specs.Renewing.{Outside, Renewal}
 use Rattle.sums.specs.Ledger.{room, register, ledger, Resummed}
 use Rattle.sums.specs.Laws.{Adds, Changes, NeverOutOfOrder, Reads}
-use Rattle.sums.proofs.Nodes.{sums_are, are_sums}
-
-first_in_below : (h j : ℕ) → first_in h j ≤ j
-unfolding first_in
-first_in_below zero j = omega arith
-first_in_below (suc h) j = let one = first_in_below h j in let two = first_in_below h (j - 2 ^ h) in grind (arith, nat_tests)
-
-first_below : (j : ℕ) → first j ≤ j
-unfolding first
-first_below j = first_in_below (suc j) j
+use Rattle.sums.proofs.Nodes.{first_below, sums_are, are_sums}
 
 -- the place i of a node that sums over no claim from a on and before b is before a, or from b on
 covered : (a b j i : ℕ) → first j ≤ i → i ≤ j → Outside a b j → (i < a) ⊎ (b ≤ i)

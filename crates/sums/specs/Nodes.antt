@@ -1,19 +1,13 @@
--- A tree of sums over claims in ascending order. A node stands at the place of each claim, and sums over this claim and over
+-- A tree of sums over claims in ascending order. A node stands at the place of each claim, and has the sum of this claim and of
 -- some of those before it. Assumes nothing.
-use Rattle.std.specs.Prelude.{◌≡◌, ℕ, suc, zero, ◌+◌, ◌-◌, ◌^◌, ◌<◌, List, length, map, take, drop, if◌then◌else◌, ◌==◌, nat_lt, sum, slice_index}
+use Rattle.std.specs.Prelude.{◌≡◌, ℕ, ◌+◌, ◌<◌, List, length, map, take, drop, sum, slice_index, bit_and}
 use Rattle.std.specs.List.{range_with_len}
 use Rattle.level.specs.Words.{held}
 
--- The first claim that the node at place j sums over, in a tree of height h, which has fewer than 2 ^ h nodes. The node in the
--- middle sums over all up to it; those before it, and those behind it, are trees of their own, one less high.
-unfoldable pub first_in : ℕ → ℕ → ℕ
-first_in zero j = j
-first_in (suc h) j =
-    if nat_lt (j + 1) (2 ^ h) then first_in h j else if j + 1 == 2 ^ h then 0 else 2 ^ h + first_in h (j - 2 ^ h)
-
--- the same in each tree that has room for this place
+-- The first claim that the node at place j sums over: j in binary digits, without the ones that it ends in. So the node at
+-- 2 ^ h - 1 sums over all claims up to it, and those on either side of it, before and behind, are trees of their own.
 unfoldable pub first : ℕ → ℕ
-first j = first_in (suc j) j
+first j = bit_and j (j + 1)
 
 -- what the node has: what is claimed from there on up to its own place
 abbrev pub node : List ℕ → ℕ → ℕ

@@ -79,17 +79,16 @@ pub(crate) fn descend(height: u32, sums: &[u64], claims: &[u64], target: u64) ->
     if claims.len() <= middle {
         return descend(height, sums, claims, target);
     }
+    let (sum, claim) = (sums[middle], claims[middle]);
     let others = claims.len() - middle - 1;
-    if u128::from(target)
-        <= u128::from(sums[middle]) + others as u128 * u128::from(claims[middle])
-    {
+    if u128::from(target) <= u128::from(sum) + others as u128 * u128::from(claim) {
         descend(height, sums, claims, target).further()
     } else {
         descend(
             height,
             &sums[middle + 1..],
             &claims[middle + 1..],
-            target - sums[middle],
+            target - sum,
         )
         .further()
     }
