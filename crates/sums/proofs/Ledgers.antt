@@ -1,9 +1,8 @@
 -- A ledger keeps its claims, and the sums over those in order. Assumes nothing.
-use Rattle.std.proofs.Common.{◌≡◌, ℕ, suc, zero, ◌+◌, ◌-◌, ◌*◌, ◌/◌, ◌^◌, ◌<◌, ◌≤◌, List, [], ◌∷◌, ◌++◌, length, take, drop, set, slice_index, slice_set, min, max, length-append, length-drop, get_or-drop, sum, refl, sym, ap, ◌∙◌, arith}
+use Rattle.std.proofs.Common.{◌≡◌, ℕ, ◌+◌, ◌-◌, ◌*◌, ◌/◌, ◌<◌, ◌≤◌, List, [], ◌∷◌, ◌++◌, length, take, drop, set, slice_index, slice_set, min, max, length-append, length-drop, get_or-drop, sum, refl, sym, ap, ◌∙◌, arith}
 use mathlib.Core.Logic.{◌⊎◌, inl, inr}
 use Rattle.std.proofs.Math.Logic.{⊎_elim}
 use Rattle.std.proofs.lemmas.List.{places, take-append-drop, take_at, drop_at, ext_get_or, length-take, length-take-le, get_or-take, get_or-set_other, get_or_append_left, length-set, length_push}
-use Rattle.std.proofs.lemmas.Bool.Decides.{nat_tests}
 use Rattle.estate.specs.Order.{sorted}
 use Rattle.estate.proofs.Ordered.{length-sorted, rising_sorted}
 use Rattle.register.specs.Row.{Carried}

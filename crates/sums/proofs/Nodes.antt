@@ -1,14 +1,10 @@
 -- Nodes, and parts of a tree. Assumes nothing.
-use Rattle.std.proofs.Common.{◌≡◌, ℕ, suc, zero, ◌+◌, ◌-◌, ◌*◌, ◌^◌, ◌%◌, ◌<◌, ◌≤◌, List, length, take, drop, sum, refl, sym, ap, ◌∙◌, arith}
-use Rattle.std.proofs.lemmas.Bool.{cases_lt}
-use Rattle.std.proofs.Math.Logic.{⊎_elim}
+use Rattle.std.proofs.Common.{◌≡◌, ℕ, ◌+◌, ◌-◌, ◌*◌, ◌^◌, ◌%◌, ◌<◌, ◌≤◌, List, length, take, drop, sum, refl, sym, ap, ◌∙◌, arith}
 use Rattle.std.proofs.lemmas.List.{places, take-take, ext_get_or}
 use Rattle.std.proofs.lemmas.List.FromFn.{length-map-range_with_len, get_or-map-range_with_len}
-use Rattle.std.proofs.Math.Pow.{pow_mono}
 use Rattle.std.proofs.lemmas.Nat.{leading_length, one_shl, pow_pos, and_le_l, and_block}
 use Rattle.std.specs.Int.Bits.{and_zero_r}
 use Rattle.std.specs.Int.Count.{count_leading_zeros}
-use Rattle.std.proofs.lemmas.Bool.Decides.{nat_tests}
 use Rattle.level.specs.Words.{held}
 use Rattle.sums.specs.Nodes.{first, node, AreSums, sums_of}
 use Rattle.sums.specs.Descending.{IsHeight, IsMiddle}
@@ -40,7 +36,7 @@ module _ (h m : ℕ) (middle : m + 1 ≡ 2 ^ h) where
       let apart = and_block h 0 1 m 0 (omega arith) (pow_pos h) in
       let low : 0 * 2 ^ h + m ≡ m = omega arith in
       let high : 1 * 2 ^ h + 0 ≡ m + 1 = omega arith in
-      rw (low, high) at apart ∙ and_zero_r m
+      omega (arith, rw (low, high) at apart, and_zero_r m)
 
   pub first_right : (k : ℕ) → k + 1 < 2 ^ h → first (m + 1 + k) ≡ m + 1 + first k
   unfolding first
