@@ -19,11 +19,8 @@ use Rattle.sums.specs.Nodes.{AreSums}
 use Rattle.sums.specs.Descending.{IsHeight, IsMiddle, Totals, EndsWithin, Descends, Sought}
 use Rattle.sums.proofs.Nodes.{height_room, node_middle, node_right}
 
--- what a saturating sum comes to
-pub held-more : (a b : ℕ) → held (held a + b) ≡ held (a + b)
-held-more a b = omega arith
-
-pub held-sum : (n : ℕ) (ks : List ℕ) → held (held (sum (take n ks)) + held (sum (drop n ks))) ≡ held (sum ks)
+-- what two sums come to, one of all that is claimed before a place and one of what is claimed behind it
+held-sum : (n : ℕ) (ks : List ℕ) → held (held (sum (take n ks)) + held (sum (drop n ks))) ≡ held (sum ks)
 held-sum n ks = omega (arith, sum_by-take-drop (λ x. x) ks n)
 
 -- a tree over no claims
