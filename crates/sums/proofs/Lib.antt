@@ -1,5 +1,6 @@
 pub mod Nodes
 pub mod Found
+pub mod Ways
 pub mod Written
 pub mod Rows
 pub mod Ledgers

@@ -1,10 +1,10 @@
 -- What is read of a tree of sums. Assumes nothing.
-use Rattle.std.specs.Prelude.{◌≡◌, ℕ, ◌+◌, ◌-◌, ◌*◌, ◌^◌, ◌<◌, ◌≤◌, ◌⊎◌, List, length, take, sum, slice_index}
-use Rattle.std.specs.List.Sorted.{IsNonDecreasing}
+use Rattle.std.specs.Prelude.{◌≡◌, ℕ, suc, zero, ◌+◌, ◌-◌, ◌*◌, ◌^◌, ◌<◌, ◌≤◌, List, length, drop, sum, if◌then◌else◌, nat_lt, nat_le, slice_index}
 use Rattle.level.specs.Words.{held}
-use Rattle.level.specs.Levels.{Fills}
+use Rattle.level.specs.Levels.{level_of}
+use Rattle.estate.specs.Level.{Level}
 use Rattle.level.specs.declared.filling.Fraction.{Fraction}
-use Rattle.sums.specs.Nodes.{node, AreSums}
+use Rattle.sums.specs.Nodes.{AreSums}
 
 -- so high is a tree over n claims: it has room for them, and is no higher than that takes
 unfoldable pub IsHeight : ℕ → ℕ → Type 0
@@ -18,17 +18,24 @@ IsMiddle h m = m + 1 ≡ 2 ^ h
 unfoldable pub Totals : List ℕ → ℕ → Type 0
 Totals ws r = (ks : List ℕ) → AreSums ks ws → r ≡ held (sum ks)
 
--- Filled into claims in ascending order, n is gone before more than q of them are filled.
-abbrev pub EndsWithin : ℕ → ℕ → List ℕ → Type 0
-EndsWithin q n ks = (length ks < q) ⊎ (n ≤ sum (take q ks) + (length ks - q) * slice_index ks (q - 1))
+-- what is found going down, and at how many nodes it was decided where it lies
+pub record Way : Type 0 where
+  pub level : Level
+  pub steps : ℕ
 
--- The first words are the nodes of a tree of height h over the first claims, which ascend, and n is gone within that tree.
-pub record Descends (h n : ℕ) (ks ws : List ℕ) : Type 0 where
-  pub nodes : (j : ℕ) → j + 1 < 2 ^ h → j < length ks → slice_index ws j ≡ node ks j
-  pub rising : IsNonDecreasing ks
-  pub word : n < 2 ^ 64
-  pub ends : EndsWithin (2 ^ h) n ks
+abbrev pub further : Way → Way
+further w = record { level = w.level; steps = w.steps + 1 }
 
--- then this is the level of n, filled into all these claims
-unfoldable pub Sought : ℕ → ℕ → List ℕ → List ℕ → Fraction → Type 0
-Sought h n ks ws f = Descends h n ks ws → Fills ks n f
+-- The way down a tree of height h with n to be filled in. In the middle stand the sum over all claims up to there, and the last
+-- of these claims. Where n is no more than that sum, and as much for each claim behind as that claim, the way goes on before the
+-- middle; otherwise all claims up to there are filled, and it goes on behind it. It ends where no claim is left to be filled.
+unfoldable pub way : ℕ → ℕ → List ℕ → List ℕ → Way
+way zero n ks ws = record { level = record { spread = n; sharers = length ks }; steps = 0 }
+way (suc h) n ks ws =
+    if nat_lt (length ks) (2 ^ h) then way h n ks ws
+    else if nat_le n (slice_index ws (2 ^ h - 1) + (length ks - 2 ^ h) * slice_index ks (2 ^ h - 1)) then further (way h n ks ws)
+    else further (way h (n - slice_index ws (2 ^ h - 1)) (drop (2 ^ h) ks) (drop (2 ^ h) ws))
+
+-- this way was gone
+unfoldable pub Goes : ℕ → ℕ → List ℕ → List ℕ → Fraction → ℕ → Type 0
+Goes h n ks ws f s = way h n ks ws ≡ record { level = level_of f; steps = s }

@@ -1,7 +1,7 @@
 // Down a tree of sums, from its middle to a place. A tree is as high as it has nodes on the longest way down; its middle is
 // the node at which the way begins, and what lies on either side of it is a tree one less high.
 ghost use Rattle.std.specs.Prelude.{◌≡◌, ◌≤◌, ◌<◌, ◌+◌, ◌^◌, length};
-ghost use Rattle.sums.specs.Descending.{IsHeight, IsMiddle, Sought, Totals};
+ghost use Rattle.sums.specs.Descending.{IsHeight, IsMiddle, Goes, Totals};
 
 use level::Fraction;
 
@@ -61,12 +61,12 @@ impl Descent {
 }
 
 // Goes down from the middle of a tree so high, to where the level lies.
-#[tactic(auto, using(crate::proofs::Found::sought))]
+#[tactic(auto, using(crate::proofs::Ways::goes))]
 pub(crate) fn descend(height: u32, sums: &[u64], claims: &[u64], target: u64) -> Descent
     requires word { height ≤ 64 }
     requires paired { length sums.now ≡ length claims.now }
-    ensures steps { result.steps ≤ height }
-    ensures level { Sought height target claims.now sums.now result.level }
+    ensures goes { Goes height target claims.now sums.now result.level result.steps }
+    ensures few { result.steps ≤ height }
 {
     let Some(height) = height.checked_sub(1) else {
         let level = Fraction {

@@ -19,7 +19,7 @@ pub struct Tree<'a> {
 }
 
 impl<'a> Tree<'a> {
-    ghost use Rattle.sums.specs.Trees.{IsTree};
+    ghost use Rattle.sums.specs.Trees.{Descended, IsTree};
 
     // None where there is not one sum for each claim.
     pub fn new(claims: &'a [u64], sums: &'a [u64]) -> Option<Self>
@@ -42,8 +42,9 @@ impl<'a> Tree<'a> {
     }
 
     // Fills the target into the claims, each up to the level, and answers the level, as going through all of them does.
-    #[tactic(auto, using(crate::proofs::Found::found))]
+    #[tactic(auto, using(crate::proofs::Ways::ways))]
     pub fn descend(&self, target: u64) -> Descent
+        ensures descended { Descended self.now.claims.now self.now.sums.now target result }
         ensures level { IsTree self.now → Fills self.now.claims.now target result.level }
         ensures steps { 2 ^ result.steps ≤ 2 * length self.now.claims.now + 1 }
     {
