@@ -25,7 +25,7 @@ unfolding IsMiddle
 middled h low = omega (arith, one_shl h 64 low, pow_pos h)
 
 -- some claims among those before and behind a place
-drop-take-part : (a b c n : ℕ) (ks : List ℕ) → c ≡ n + b → drop (n + a) (take c ks) ≡ drop a (take b (drop n ks))
+pub drop-take-part : (a b c n : ℕ) (ks : List ℕ) → c ≡ n + b → drop (n + a) (take c ks) ≡ drop a (take b (drop n ks))
 drop-take-part a b c n ks same = ext_get_or 0 _ _ (grind (arith, places)) (λ k h. grind (arith, places))
 
 -- a tree one higher than h, whose middle is m

@@ -1,23 +1,37 @@
 -- What is renewed of a tree after some claims have changed. Assumes nothing.
-use Rattle.std.proofs.Common.{◌≡◌, ℕ, suc, ◌+◌, ◌-◌, ◌^◌, ◌<◌, ◌≤◌, List, [], ◌∷◌, ◌++◌, length, take, drop, set, sum, slice_index, length-drop, length-append, append_assoc, get_or-drop, refl, sym, ◌∙◌, subst, arith}
+use Rattle.std.proofs.Common.{◌≡◌, ℕ, suc, ◌+◌, ◌-◌, ◌^◌, ◌<◌, ◌≤◌, List, [], ◌∷◌, ◌++◌, length, take, drop, set, sum, slice_index, length-drop, length-append, append_assoc, get_or-drop, refl, sym, ap, ◌∙◌, subst, arith}
 use mathlib.Core.Logic.{◌⊎◌, inl, inr}
 use Rattle.std.proofs.Math.Logic.{⊎_elim}
 use borrow.Rule.Slice.PartMut.{put_mid}
-use Rattle.std.proofs.lemmas.List.{places, length-take, take_at, take_all, take_more, drop_all, append-nil, length-set, length-take-le, get_or-take}
+use Rattle.std.proofs.lemmas.List.{places, length-take, take-append-le, take_at, take_all, take_more, drop_all, append-nil, length-set, length-take-le, get_or-take}
 use Rattle.std.proofs.lemmas.List.Sums.{sum_by_more}
 use Rattle.std.proofs.lemmas.Grind.{elements}
 use Rattle.std.proofs.lemmas.Bool.{cases_lt}
 use Rattle.level.specs.Words.{held}
-use Rattle.sums.specs.Nodes.{node, AreSums}
-use Rattle.sums.specs.Descending.{IsMiddle, Totals}
+use Rattle.sums.specs.Nodes.{first, node, AreSums}
+use Rattle.sums.specs.Descending.{all_in, all_of, All, IsMiddle}
 use Rattle.sums.specs.Renewing.{Outside, Renewal, Renewed}
-use Rattle.sums.proofs.Nodes.{first_middle, first_right, node_middle, node_left, node_right}
-use Rattle.sums.proofs.Found.{room_before, room_taken, room_behind}
+use Rattle.sums.proofs.Nodes.{first_middle, drop-take-part, first_right, node_middle, node_left, node_right}
+use Rattle.sums.proofs.Found.{all_is, all_sums, room_before, room_taken, room_behind}
 
 -- nothing, where no claim before b has changed, or none that is there from a on
-renewal_none : (a b : ℕ) (ks ws : List ℕ) → (b ≡ 0) ⊎ (length ks ≤ a) → Renewal a b ks ws ws
-renewal_none a b ks ws (inl none) = record { long = refl; untouched = λ j i out. refl; sums = λ same is. record { long = same; nodes = λ j l. is j l (inr (omega arith)) } }
-renewal_none a b ks ws (inr none) = record { long = refl; untouched = λ j i out. refl; sums = λ same is. record { long = same; nodes = λ j l. is j l (inl (omega arith)) } }
+renewal_none : (a b : ℕ) (ks ws : List ℕ) → length ws ≡ length ks → (b ≡ 0) ⊎ (length ks ≤ a) → Renewal a b ks ws ws
+renewal_none a b ks ws paired (inl none) = record {
+  long = refl;
+  untouched = λ j i out. refl;
+  renewed = λ j l i g. absurd (omega arith);
+  sums = λ same is. record { long = same; nodes = λ j l. is j l (inr (omega arith)) };
+}
+renewal_none a b ks ws paired (inr none) = record {
+  long = refl;
+  untouched = λ j i out. refl;
+  renewed = λ j l i g. absurd (omega arith);
+  sums = λ same is. record { long = same; nodes = λ j l. is j l (inl (omega arith)) };
+}
+
+-- parts of lists of one length
+pub paired_taken : (m : ℕ) (ks ws : List ℕ) → length ws ≡ length ks → length (take m ws) ≡ length (take m ks)
+paired_taken m ks ws paired = omega (arith, length-take m ks, length-take m ws)
 
 -- a word behind a part, in its place
 set-behind : (m v : ℕ) (left ws : List ℕ) → length left ≡ m → m < length ws → set (left ++ drop m ws) m v ≡ left ++ (v ∷ drop (m + 1) ws)
@@ -73,10 +87,37 @@ module _ (h m a b : ℕ) (middle : m + 1 ≡ 2 ^ h) (ks ws : List ℕ) (few : le
   outside_right k room (inl l) = inl (omega arith)
   outside_right k room (inr g) = inr (omega (arith, first_right h m middle k room, g))
 
+  summed : (left : List ℕ) → AreSums (take m ks) left → held (all_of left + slice_index ks m) ≡ held (sum (take (m + 1) ks))
+  summed left tree =
+      let long = tree.long ∙ length-take-le m ks (omega arith) in
+      let front = sym (all_is h left (omega (arith, long))) ∙ all_sums h (take m ks) left (omega (arith, length-take-le m ks (omega arith))) tree in
+      rw front (omega (arith, sum_by_more (λ x. x) ks m 0 some))
+
+  -- what stands before a place in its own part of the tree
+  module _ (left right : List ℕ) (v : ℕ) (size : length left ≡ m) where
+    abbrev all_three : List ℕ
+    all_three = left ++ (v ∷ right)
+
+    same_left : (j : ℕ) → j < m → held (all_of (drop (first j) (take j left)) + slice_index (take m ks) j) ≡ held (all_of (drop (first j) (take j all_three)) + slice_index ks j)
+    same_left j i =
+        ap (λ xs. held (all_of (drop (first j) xs) + slice_index (take m ks) j)) (sym (take-append-le j left (v ∷ right) (omega arith)))
+        ∙ ap (λ c. held (all_of (drop (first j) (take j all_three)) + c)) (get_or-take m ks j 0 i)
+
+    same_middle : held (all_of left + slice_index ks m) ≡ held (all_of (drop (first m) (take m all_three)) + slice_index ks m)
+    same_middle = rw (first_middle h m middle, take_at left (v ∷ right) m size) refl
+
+    same_right : (k : ℕ) → k + 1 < 2 ^ h → held (all_of (drop (first k) (take k right)) + slice_index (drop (m + 1) ks) k) ≡ held (all_of (drop (first (m + 1 + k)) (take (m + 1 + k) all_three)) + slice_index ks (m + 1 + k))
+    same_right k room =
+        let part : drop (first k) (take k right) ≡ drop (first (m + 1 + k)) (take (m + 1 + k) all_three) =
+            ap (λ xs. drop (first k) (take k xs)) (sym (drop_right m v left right size))
+            ∙ sym (drop-take-part (first k) k (m + 1 + k) (m + 1) all_three refl)
+            ∙ ap (λ n. drop n (take (m + 1 + k) all_three)) (sym (first_right h m middle k room)) in
+        rw part (ap (λ c. held (all_of (drop (first (m + 1 + k)) (take (m + 1 + k) all_three)) + c)) (get_or-drop (m + 1) ks k 0))
+
   -- a tree one higher, of its two parts and the middle
   module _ (left right : List ℕ) (v : ℕ) (l : Renewal a b (take m ks) (take m ws) left) (r : Renewal (a - (m + 1)) (b - (m + 1)) (drop (m + 1) ks) (drop (m + 1) ws) right) where
-    joined : (m < a → v ≡ slice_index ws m) → (a ≤ m → AreSums (take m ks) left → v ≡ held (sum (take (m + 1) ks))) → Renewal a b ks ws (left ++ (v ∷ right))
-    joined kept summed =
+    joined : (m < a → v ≡ slice_index ws m) → (a ≤ m → v ≡ held (all_of left + slice_index ks m)) → Renewal a b ks ws (left ++ (v ∷ right))
+    joined kept made =
         let new = left ++ (v ∷ right) in
         let front = length-take-le m ks (omega arith) in
         let front_ws = length-take-le m ws (omega arith) in
@@ -92,6 +133,10 @@ module _ (h m a b : ℕ) (middle : m + 1 ≡ 2 ^ h) (ks ws : List ℕ) (few : le
               (λ j i g out. on_left j i ∙ l.untouched j (omega arith) out ∙ get_or-take m ws j 0 i)
               (λ g out. here ∙ kept (middle_outside out))
               (λ k g out. on_right k ∙ r.untouched k (omega arith) (right_outside k (omega arith) out) ∙ get_or-drop (m + 1) ws k 0);
+          renewed = by_place m (λ j. a ≤ j → j < length ws → first j < b → slice_index new j ≡ held (all_of (drop (first j) (take j new)) + slice_index ks j))
+              (λ j i g t low. on_left j i ∙ l.renewed j g (omega arith) low ∙ same_left left right v size j i)
+              (λ g t low. here ∙ made g ∙ same_middle left right v size)
+              (λ k g t low. let room : k + 1 < 2 ^ h = omega arith in on_right k ∙ r.renewed k (omega arith) (omega arith) (omega (arith, first_right h m middle k room)) ∙ same_right left right v size k room);
           sums = λ same is.
               let tree = l.sums (front_ws ∙ sym front) (λ j i out. let g : j < m = omega arith in get_or-take m ws j 0 g ∙ is j (omega arith) out ∙ node_left m j ks g) in
               let rest = r.sums (omega arith) (λ j i out. let room : j + 1 < 2 ^ h = omega arith in get_or-drop (m + 1) ws j 0 ∙ is (m + 1 + j) (omega arith) (outside_right j room out) ∙ node_right h m middle ks j room) in
@@ -99,50 +144,43 @@ module _ (h m a b : ℕ) (middle : m + 1 ≡ 2 ^ h) (ks ws : List ℕ) (few : le
                 long = omega (arith, length-append {A = ℕ}, l.long, r.long);
                 nodes = by_place m (λ j. j < length ks → slice_index new j ≡ node ks j)
                     (λ j i g. on_left j i ∙ tree.nodes j (omega arith) ∙ sym (node_left m j ks i))
-                    (λ g. here ∙ ⊎_elim (λ (t : m < a). kept t ∙ is m g (inl t)) (λ (t : a ≤ m). summed t tree ∙ sym (node_middle h m middle ks)) (cases_lt m a))
+                    (λ g. here ∙ ⊎_elim (λ (t : m < a). kept t ∙ is m g (inl t)) (λ (t : a ≤ m). made t ∙ summed left tree ∙ sym (node_middle h m middle ks)) (cases_lt m a))
                     (λ k g. on_right k ∙ rest.nodes k (omega arith) ∙ sym (node_right h m middle ks k (omega arith)));
               };
         }
 
-pub renewed_none : (h a b : ℕ) (ks ws : List ℕ) → h < 1 → length ks < 2 ^ h → Renewed a b ks ws ws
+pub renewed_none : (h a b : ℕ) (ks ws : List ℕ) → h < 1 → length ks < 2 ^ h → length ws ≡ length ks → Renewed a b ks ws ws
 unfolding Renewed
-renewed_none h a b [] ws low few = renewal_none a b [] ws (inr (omega arith))
-renewed_none h a b (c ∷ cs) ws low few = let none : h ≡ 0 = omega arith in absurd (omega (arith, rw none at few))
+renewed_none h a b [] ws low few paired = renewal_none a b [] ws paired (inr (omega arith))
+renewed_none h a b (c ∷ cs) ws low few paired = let none : h ≡ 0 = omega arith in absurd (omega (arith, rw none at few))
 
 -- what is renewed of a tree one higher than h, by what is renewed of its parts
 module _ (g h m a b : ℕ) (ks ws : List ℕ) (less : g ≡ suc h) (is_middle : IsMiddle h m) (few : length ks < 2 ^ g) (paired : length ws ≡ length ks) (some : m < length ks) (span : a < b) where
-  summed : (left : List ℕ) (tot v : ℕ) → length left ≡ m → Totals (take m (left ++ drop m ws)) tot → v ≡ held (tot + slice_index ks m) → AreSums (take m ks) left → v ≡ held (sum (take (m + 1) ks))
-  unfolding Totals
-  summed left tot v long t is tree =
-      let whole = rw (take_at left (drop m ws) m long) at t in
-      let front = whole (take m ks) tree in
-      let more = sum_by_more (λ x. x) ks m 0 some in
-      is ∙ rw front (omega (arith, more))
-
   pub renewed_behind : (part : List ℕ) → m < a → Renewed (a - (m + 1)) (b - (m + 1)) (take (length ks - (m + 1)) (drop (m + 1) ks)) (take (length ws - (m + 1)) (drop (m + 1) ws)) part → Renewed a b ks ws (put_mid (m + 1) (length ws - (m + 1)) ws part)
   unfolding Renewed IsMiddle
   renewed_behind part past r =
       let ks_is = take_all (length ks - (m + 1)) (drop (m + 1) ks) (omega (arith, length-drop (m + 1) ks)) in
       let ws_is = take_all (length ws - (m + 1)) (drop (m + 1) ws) (omega (arith, length-drop (m + 1) ws)) in
-      let left = renewal_none a b (take m ks) (take m ws) (inr (omega (arith, length-take-le m ks (omega arith)))) in
+      let left = renewal_none a b (take m ks) (take m ws) (paired_taken m ks ws paired) (inr (omega (arith, length-take-le m ks (omega arith)))) in
       let all : put_mid (m + 1) (length ws - (m + 1)) ws part ≡ take m ws ++ (slice_index ws m ∷ part) = put-end (m + 1) ws part (omega arith) ∙ rw (take_more ws m 0 (omega arith)) (append_assoc (take m ws) (slice_index ws m ∷ []) part) in
       rw all (joined h m a b is_middle ks ws (rw less at few) paired some span (take m ws) part (slice_index ws m) left (rw (ks_is, ws_is) at r) (λ past. refl) (λ first. absurd (omega arith)))
 
   -- with the words before the middle, and what is in it
-  module _ (left : List ℕ) (tot v : ℕ) (first : a ≤ m) (l : Renewed a b (take m ks) (take m ws) left) (t : Totals (take m (left ++ drop m ws)) tot) (is : v ≡ held (tot + slice_index ks m)) where
+  module _ (left : List ℕ) (tot v : ℕ) (first : a ≤ m) (l : Renewed a b (take m ks) (take m ws) left) (t : All h (take m (left ++ drop m ws)) tot) (is : v ≡ held (tot + slice_index ks m)) where
     size : length left ≡ m
     unfolding Renewed
     size = l.long ∙ length-take-le m ws (omega arith)
 
     joined_at : (right : List ℕ) → Renewal (a - (m + 1)) (b - (m + 1)) (drop (m + 1) ks) (drop (m + 1) ws) right → Renewal a b ks ws (left ++ (v ∷ right))
-    unfolding Renewed IsMiddle
+    unfolding Renewed IsMiddle All
     joined_at right r =
-        joined h m a b is_middle ks ws (rw less at few) paired some span left right v l r (λ past. absurd (omega arith)) (λ first. summed left tot v size t is)
+        let all : tot ≡ all_of left = rw (take_at left (drop m ws) m size) at t ∙ all_is h left (omega (arith, size)) in
+        joined h m a b is_middle ks ws (rw less at few) paired some span left right v l r (λ past. absurd (omega arith)) (λ first. is ∙ rw all refl)
 
     pub renewed_before : b ≤ m + 1 → Renewed a b ks ws (set (left ++ drop m ws) m v)
     unfolding Renewed
     renewed_before last =
-        rw (set-behind m v left ws size (omega arith)) (joined_at (drop (m + 1) ws) (renewal_none _ _ _ _ (inl (omega arith))))
+        rw (set-behind m v left ws size (omega arith)) (joined_at (drop (m + 1) ws) (renewal_none _ _ _ _ (omega (arith, length-drop (m + 1) ks, length-drop (m + 1) ws)) (inl (omega arith))))
 
     pub renewed_both : (part : List ℕ) → Renewed 0 (b - (m + 1)) (take (length ks - (m + 1)) (drop (m + 1) ks)) (take (length (set (left ++ drop m ws) m v) - (m + 1)) (drop (m + 1) (set (left ++ drop m ws) m v))) part → Renewed a b ks ws (put_mid (m + 1) (length (set (left ++ drop m ws) m v) - (m + 1)) (set (left ++ drop m ws) m v) part)
     unfolding Renewed
@@ -154,10 +192,6 @@ module _ (g h m a b : ℕ) (ks ws : List ℕ) (less : g ≡ suc h) (is_middle : 
         let ks_is = take_all (length ks - (m + 1)) (drop (m + 1) ks) (omega (arith, length-drop (m + 1) ks)) in
         let start : a - (m + 1) ≡ 0 = omega arith in
         rw (here, put_right m v left (drop (m + 1) ws) size part) (joined_at part (rw start (rw (whole, ks_is) at right)))
-
--- parts of lists of one length
-pub paired_taken : (m : ℕ) (ks ws : List ℕ) → length ws ≡ length ks → length (take m ws) ≡ length (take m ks)
-paired_taken m ks ws paired = omega (arith, length-take m ks, length-take m ws)
 
 pub paired_behind : (m v : ℕ) (ks ws left : List ℕ) → length ws ≡ length ks → length left ≡ length (take m ws) → length (take (length (set (left ++ drop m ws) m v) - (m + 1)) (drop (m + 1) (set (left ++ drop m ws) m v))) ≡ length (take (length ks - (m + 1)) (drop (m + 1) ks))
 paired_behind m v ks ws left paired long = grind (arith, places, length-set)

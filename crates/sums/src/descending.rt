@@ -1,7 +1,7 @@
 // Down a tree of sums, from its middle to a place. A tree is as high as it has nodes on the longest way down; its middle is
 // the node at which the way begins, and what lies on either side of it is a tree one less high.
 ghost use Rattle.std.specs.Prelude.{◌≡◌, ◌≤◌, ◌<◌, ◌+◌, ◌^◌, length};
-ghost use Rattle.sums.specs.Descending.{IsHeight, IsMiddle, Goes, Totals};
+ghost use Rattle.sums.specs.Descending.{All, IsHeight, IsMiddle, Goes};
 
 use level::Fraction;
 
@@ -23,11 +23,10 @@ pub(crate) fn middle(height: u32) -> usize
 }
 
 // What is claimed by all together.
-#[tactic(auto, using(crate::proofs::Found::totals))]
+#[tactic(auto, using(crate::proofs::Found::all_goes))]
 pub(crate) fn total(height: u32, sums: &[u64]) -> u64
     requires word { height ≤ 64 }
-    requires room { length sums.now < 2 ^ height }
-    ensures { Totals sums.now result }
+    ensures { All height sums.now result }
 {
     let Some(height) = height.checked_sub(1) else {
         return 0;

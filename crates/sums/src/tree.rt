@@ -5,6 +5,7 @@ ghost use Rattle.level.specs.Levels.{Fills};
 ghost use Rattle.level.specs.Sides.{divided_of};
 ghost use Rattle.level.specs.Terms.{Agreed, Found};
 ghost use Rattle.level.specs.Words.{held};
+ghost use Rattle.sums.specs.Descending.{all_of};
 ghost use Rattle.sums.specs.Nodes.{AreSums};
 
 use crate::descending::{Descent, descend, height, total};
@@ -36,7 +37,8 @@ impl<'a> Tree<'a> {
     // What is claimed by all together, or the largest number that a word holds, where it is more.
     #[tactic(auto, using(crate::proofs::Found::in_all))]
     pub fn total(&self) -> u64
-        ensures { AreSums self.now.claims.now self.now.sums.now → result ≡ held (sum self.now.claims.now) }
+        ensures all { result ≡ all_of self.now.sums.now }
+        ensures sum { AreSums self.now.claims.now self.now.sums.now → result ≡ held (sum self.now.claims.now) }
     {
         total(height(self.sums.len()), self.sums)
     }
