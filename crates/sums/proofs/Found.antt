@@ -85,10 +85,10 @@ all_sums (suc h) ks ws few t =
     let is : 2 ^ h - 1 + 1 ≡ 2 ^ h = omega (arith, pow_pos h) in
     let lower = λ (l : length ws < 2 ^ h). all_sums h ks ws (omega (arith, t.long)) t in
     let parts = λ (g : 2 ^ h ≤ length ws).
-        let node = t.nodes m (omega (arith, t.long)) ∙ node_middle h m is ks in
-        let right = all_sums h (drop (m + 1) ks) (drop (m + 1) ws) (omega (arith, length-drop (m + 1) ks)) (behind h m ks ws is few t) in
-        let both : held (slice_index ws m + all_in h (drop (m + 1) ws)) ≡ held (sum ks) = rw (node, right) (held-sum (m + 1) ks) in
-        rw is at both in
+    let node = t.nodes m (omega (arith, t.long)) ∙ node_middle h m is ks in
+    let right = all_sums h (drop (m + 1) ks) (drop (m + 1) ws) (omega (arith, length-drop (m + 1) ks)) (behind h m ks ws is few t) in
+    let both : held (slice_index ws m + all_in h (drop (m + 1) ws)) ≡ held (sum ks) = rw (node, right) (held-sum (m + 1) ks) in
+    rw is at both in
     cond_both (ltb (length ws) (2 ^ h)) _ _ (λ (r : ℕ). r ≡ held (sum ks)) (λ t. lower (ltb-true _ _ t)) (λ t. parts (ltb-false _ _ t))
 
 pub all_told : (h r : ℕ) (ws : List ℕ) → IsHeight (length ws) h → All h ws r → r ≡ all_of ws

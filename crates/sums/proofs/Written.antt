@@ -9,7 +9,7 @@ use Rattle.std.proofs.lemmas.Grind.{elements}
 use Rattle.std.proofs.lemmas.Bool.{cases_lt}
 use Rattle.level.specs.Words.{held}
 use Rattle.sums.specs.Nodes.{first, node, AreSums}
-use Rattle.sums.specs.Descending.{all_in, all_of, All, IsMiddle}
+use Rattle.sums.specs.Descending.{all_of, All, IsMiddle}
 use Rattle.sums.specs.Renewing.{Outside, Renewal, Renewed}
 use Rattle.sums.proofs.Nodes.{first_middle, drop-take-part, first_right, node_middle, node_left, node_right}
 use Rattle.sums.proofs.Found.{all_is, all_sums, room_before, room_taken, room_behind}
@@ -109,9 +109,9 @@ module _ (h m a b : ℕ) (middle : m + 1 ≡ 2 ^ h) (ks ws : List ℕ) (few : le
     same_right : (k : ℕ) → k + 1 < 2 ^ h → held (all_of (drop (first k) (take k right)) + slice_index (drop (m + 1) ks) k) ≡ held (all_of (drop (first (m + 1 + k)) (take (m + 1 + k) all_three)) + slice_index ks (m + 1 + k))
     same_right k room =
         let part : drop (first k) (take k right) ≡ drop (first (m + 1 + k)) (take (m + 1 + k) all_three) =
-            ap (λ xs. drop (first k) (take k xs)) (sym (drop_right m v left right size))
-            ∙ sym (drop-take-part (first k) k (m + 1 + k) (m + 1) all_three refl)
-            ∙ ap (λ n. drop n (take (m + 1 + k) all_three)) (sym (first_right h m middle k room)) in
+        ap (λ xs. drop (first k) (take k xs)) (sym (drop_right m v left right size))
+        ∙ sym (drop-take-part (first k) k (m + 1 + k) (m + 1) all_three refl)
+        ∙ ap (λ n. drop n (take (m + 1 + k) all_three)) (sym (first_right h m middle k room)) in
         rw part (ap (λ c. held (all_of (drop (first (m + 1 + k)) (take (m + 1 + k) all_three)) + c)) (get_or-drop (m + 1) ks k 0))
 
   -- a tree one higher, of its two parts and the middle

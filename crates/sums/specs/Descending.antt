@@ -1,10 +1,9 @@
 -- What is read of a tree of sums. Assumes nothing.
-use Rattle.std.specs.Prelude.{◌≡◌, ℕ, suc, zero, ◌+◌, ◌-◌, ◌*◌, ◌^◌, ◌<◌, ◌≤◌, List, length, drop, sum, if◌then◌else◌, nat_lt, nat_le, slice_index}
+use Rattle.std.specs.Prelude.{◌≡◌, ℕ, suc, zero, ◌+◌, ◌-◌, ◌*◌, ◌^◌, ◌<◌, ◌≤◌, List, length, drop, if◌then◌else◌, nat_lt, nat_le, slice_index}
 use Rattle.level.specs.Words.{held}
 use Rattle.level.specs.Levels.{level_of}
 use Rattle.estate.specs.Level.{Level}
 use Rattle.level.specs.declared.filling.Fraction.{Fraction}
-use Rattle.sums.specs.Nodes.{AreSums}
 
 -- so high is a tree over n claims: it has room for them, and is no higher than that takes
 unfoldable pub IsHeight : ℕ → ℕ → Type 0

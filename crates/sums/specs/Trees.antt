@@ -1,6 +1,9 @@
 -- A tree over claims, and what is found by it. Assumes nothing.
-use Rattle.std.specs.Prelude.{ℕ, ◌≤◌, List, length}
+use Rattle.std.specs.Prelude.{◌≡◌, ℕ, ◌≤◌, List, length}
 use Rattle.std.specs.List.Sorted.{IsNonDecreasing}
+use Rattle.estate.specs.Level.{scarce_of_sum, target_of_sum}
+use Rattle.level.specs.Sides.{gains}
+use Rattle.level.specs.declared.closed.Terms.{Terms}
 use Rattle.sums.specs.Nodes.{AreSums}
 use Rattle.sums.specs.Descending.{IsHeight, Goes}
 use Rattle.sums.specs.declared.descending.Descent.{Descent}
@@ -17,3 +20,10 @@ pub record Descended (ks ws : List ℕ) (n : ℕ) (d : Descent) : Type 0 where
   pub high : IsHeight (length ks) height
   pub goes : Goes height n ks ws d.level d.steps
   pub few : d.steps ≤ height
+
+-- The terms on which e cents, of a sum s that is claimed, are divided, as the way down this tree gives them.
+pub record Leads (e s : ℕ) (t : Tree) (r : Terms) : Type 0 where
+  pub side : gains r.side ≡ scarce_of_sum e s
+  pub way : Descent
+  pub level : r.level ≡ way.level
+  pub down : Descended t.claims.now t.sums.now (target_of_sum e s) way

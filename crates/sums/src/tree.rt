@@ -1,5 +1,5 @@
 // A tree of sums over claims in ascending order: what all claims come to, and the level, are found by going down it.
-ghost use Rattle.std.specs.Prelude.{◌≡◌, ◌≢◌, ◌≤◌, ◌<◌, ◌+◌, ◌*◌, ◌^◌, IfSome, IfNone, length, sum};
+ghost use Rattle.std.specs.Prelude.{◌≡◌, ◌≢◌, ◌≤◌, ◌<◌, ◌+◌, ◌*◌, ◌^◌, IfSome, IfNone, length, min, sum};
 ghost use Rattle.estate.specs.Limits.{most_there};
 ghost use Rattle.level.specs.Levels.{Fills};
 ghost use Rattle.level.specs.Sides.{divided_of};
@@ -20,7 +20,7 @@ pub struct Tree<'a> {
 }
 
 impl<'a> Tree<'a> {
-    ghost use Rattle.sums.specs.Trees.{Descended, IsTree};
+    ghost use Rattle.sums.specs.Trees.{Descended, IsTree, Leads};
 
     // None where there is not one sum for each claim.
     pub fn new(claims: &'a [u64], sums: &'a [u64]) -> Option<Self>
@@ -55,7 +55,8 @@ impl<'a> Tree<'a> {
 
     // The terms on which an estate is divided among the claims.
     fn terms_on(&self, estate: Estate) -> Terms
-        ensures { IsTree self.now → Agreed (divided_of estate) estate.claimed self.now.claims.now result }
+        ensures leads { Leads (divided_of estate) estate.claimed self.now result }
+        ensures agreed { IsTree self.now → Agreed (divided_of estate) estate.claimed self.now.claims.now result }
     {
         Terms {
             side: estate.side(),
@@ -67,6 +68,7 @@ impl<'a> Tree<'a> {
     pub fn terms(&self, there: u64) -> Option<Terms>
         ensures none { IfNone result (most_there < there) }
         ensures some { IfSome result (λ _. there ≤ most_there) }
+        ensures leads { IfSome result (λ terms. Leads (min there (all_of self.now.sums.now)) (all_of self.now.sums.now) self.now terms) }
         ensures found { IsTree self.now → Found there self.now.claims.now result }
     {
         let estate = Estate::new(there, self.total())?;
