@@ -9,33 +9,29 @@ use Rattle.level.specs.declared.closed.Terms.{Terms}
 use Rattle.sums.specs.Ledger.{room}
 use Rattle.sums.specs.Trees.{IsTree}
 use Rattle.sums.specs.declared.tree.Tree.{Tree}
-use Rattle.desk.specs.Memory.{header_words, estate_of, Headed, Stands}
-use Rattle.desk.specs.Steps.{Termed}
+use Rattle.desk.specs.Memory.{header_words, estate_of, Headed}
+use Rattle.desk.specs.Steps.{Summed, Termed}
 use Rattle.desk.proofs.Words.{claims_counted, rows_read}
 use Rattle.desk.proofs.Keeping.{part_room, part_is}
 
--- memory whose header says the limit and how many claims there are, of which so many words are the ledger; the tree in it
-module _ (m : List ℕ) (limit count k : ℕ) (h : Headed m) (l : limit ≡ slice_index m 0) (n : count ≡ slice_index m 2) (span : k ≡ 3 * limit) (tree : Tree) where
-  abbrev part0 : List ℕ
-  part0 = take k (drop header_words m)
+pub tree_known : (m : List ℕ) (limit count k : ℕ) (tree : Tree) → Headed m → limit ≡ slice_index m 0 → count ≡ slice_index m 2 → k ≡ 3 * limit → tree.claims.now ≡ take count (drop (room (take k (drop header_words m))) (take k (drop header_words m))) → tree.sums.now ≡ take count (drop (2 * room (take k (drop header_words m))) (take k (drop header_words m))) → Summed m tree
+unfolding Summed
+tree_known m limit count k tree h l n span claims sums = λ s.
+    let is = part_is m limit count k l n span h s in
+    let same = part_room m limit count k l n span h in
+    let length : count ≡ length (estate_of m).claimed = sym (claims_counted m h ∙ sym n) in
+    rows_read _ (estate_of m) s.fair.few limit tree l (rw (same, length, is) at claims) (rw (same, length, is) at sums)
 
-  is_tree : Stands m → tree.claims.now ≡ take count (drop (room part0) part0) → tree.sums.now ≡ take count (drop (2 * room part0) part0) → IsTree tree × (tree.claims.now ≡ sorted (estate_of m).claimed)
-  is_tree s claims sums =
-      let is = part_is m limit count k l n span h s in
-      let same = part_room m limit count k l n span h in
-      let length : count ≡ length (estate_of m).claimed = sym (claims_counted m h ∙ sym n) in
-      rows_read _ (estate_of m) s.fair.few limit tree l (rw (same, length, is) at claims) (rw (same, length, is) at sums)
-
-  pub terms_known : (there : ℕ) (t : Terms) (o : Option Terms) → tree.claims.now ≡ take count (drop (room part0) part0) → tree.sums.now ≡ take count (drop (2 * room part0) part0) → there ≡ slice_index m 1 → o ≡ Some t → (IsTree tree → Found there tree.claims.now o) → Termed m t
-  unfolding Termed
-  terms_known there t o claims sums e is found = λ s.
-      let cs = (estate_of m).claimed in
-      let (tree, order) = is_tree s claims sums in (
-        sorted cs,
-        record {
-          within = s.fair.within;
-          same = same_sorted cs;
-          rising = rising_sorted cs;
-          found = rw (is, order, e) at (found tree);
-        },
-      )
+pub terms_known : (m : List ℕ) (there : ℕ) (tree : Tree) (t : Terms) (o : Option Terms) → Summed m tree → there ≡ slice_index m 1 → o ≡ Some t → (IsTree tree → Found there tree.claims.now o) → Termed m t
+unfolding Termed Summed
+terms_known m there tree t o summed e is found = λ s.
+    let cs = (estate_of m).claimed in
+    let (tree, order) = summed s in (
+      sorted cs,
+      record {
+        within = s.fair.within;
+        same = same_sorted cs;
+        rising = rising_sorted cs;
+        found = rw (is, order, e) at (found tree);
+      },
+    )

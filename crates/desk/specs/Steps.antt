@@ -11,6 +11,9 @@ use Rattle.wire.specs.Written.{Stands as IsWritten}
 use Rattle.wire.specs.declared.refusals.TurnedAway.{TurnedAway}
 use Rattle.estate.specs.Answers.{Answer, number}
 use Rattle.estate.specs.Calls.{Call}
+use Rattle.estate.specs.Order.{sorted}
+use Rattle.sums.specs.Trees.{IsTree}
+use Rattle.sums.specs.declared.tree.Tree.{Tree}
 use Rattle.desk.specs.Memory.{estate_of, Headed, Stands}
 use Rattle.desk.specs.Opening.{refusal}
 use Rattle.desk.specs.Calling.{Served, SameBounds, Told}
@@ -22,6 +25,10 @@ pub record Reads (h : Header) (m : List ℕ) : Type 0 where
   pub there : h.there ≡ slice_index m 1
   pub count : h.count ≡ slice_index m 2
   pub headed : Headed m
+
+-- in a desk, this is a tree of sums over its claims in order
+unfoldable pub Summed : List ℕ → Tree → Type 0
+Summed m t = Stands m → IsTree t × (t.claims.now ≡ sorted (estate_of m).claimed)
 
 -- in a desk, these are the terms of the division
 unfoldable pub Termed : List ℕ → Terms → Type 0

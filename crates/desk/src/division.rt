@@ -1,7 +1,7 @@
 // How what is there is divided among the claims of a desk.
 ghost use Rattle.estate.specs.Calls.{cents};
 ghost use Rattle.desk.specs.Calling.{Called};
-ghost use Rattle.desk.specs.Steps.{Parted, Reads, Termed};
+ghost use Rattle.desk.specs.Steps.{Parted, Reads, Summed, Termed};
 ghost use Rattle.desk.specs.Memory.{Lent};
 
 use crate::calls::send;
@@ -10,7 +10,7 @@ use crate::opening::refused;
 use cents::Cents;
 use level::Terms;
 use shares::Shares;
-use sums::tree_of;
+use sums::{Tree, tree_of};
 use wire::{Refusal, TurnedAway};
 
 impl Header {
@@ -32,9 +32,17 @@ impl Header {
         requires { Reads self mem.now }
         ensures { Termed mem.now result }
     {
+        self.tree(mem).terms(self.there).unwrap()
+    }
+
+    // The claims in order, and the sums over them.
+    #[tactic(auto, using(crate::proofs::Dividing::tree_known))]
+    fn tree(self, mem: &[u64]) -> Tree<'_>
+        requires { Reads self mem.now }
+        ensures { Summed mem.now result }
+    {
         let end = HEADER + 3 * self.limit;
-        let tree = tree_of(&mem[HEADER..end], self.count).unwrap();
-        tree.terms(self.there).unwrap()
+        tree_of(&mem[HEADER..end], self.count).unwrap()
     }
 
     // Writes the whole cents of all.

@@ -67,8 +67,7 @@ impl<'a> Tree<'a> {
     // The terms on which what is there is divided among the claims; none where more is there than may be.
     pub fn terms(&self, there: u64) -> Option<Terms>
         ensures none { IfNone result (most_there < there) }
-        ensures some { IfSome result (λ _. there ≤ most_there) }
-        ensures leads { IfSome result (λ terms. Leads (min there (all_of self.now.sums.now)) (all_of self.now.sums.now) self.now terms) }
+        ensures some { IfSome result (λ terms. (there ≤ most_there) × Leads (min there (all_of self.now.sums.now)) (all_of self.now.sums.now) self.now terms) }
         ensures found { IsTree self.now → Found there self.now.claims.now result }
     {
         let estate = Estate::new(there, self.total())?;
