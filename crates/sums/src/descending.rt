@@ -1,11 +1,11 @@
-// Down a tree of sums, from its middle to a place. A tree is as high as it has nodes on the longest way down; its middle is
-// the node at which the way begins, and what lies on either side of it is a tree one less high.
+// The ways down a tree of sums. A way begins at the node in the middle; what lies before it, and what lies behind it, are trees
+// of their own, one less high. A tree of height 0 has no node.
 ghost use Rattle.std.specs.Prelude.{◌≡◌, ◌≤◌, ◌<◌, ◌+◌, ◌^◌, length};
 ghost use Rattle.sums.specs.Descending.{All, IsHeight, IsMiddle, Goes};
 
 use level::Fraction;
 
-// How high a tree over so many claims is.
+// How high a tree over so many claims is: as high as their number has binary digits.
 #[tactic(auto, using(crate::proofs::Nodes::heighted))]
 pub(crate) fn height(claims: usize) -> u32
     ensures { IsHeight claims result }
@@ -13,7 +13,7 @@ pub(crate) fn height(claims: usize) -> u32
     usize::BITS - claims.leading_zeros()
 }
 
-// The place of the node in the middle of a tree that is so much higher than 0 and one.
+// The place of the middle of a tree one higher than this.
 #[tactic(auto, using(crate::proofs::Nodes::middled))]
 pub(crate) fn middle(height: u32) -> usize
     requires { height < 64 }
@@ -22,7 +22,7 @@ pub(crate) fn middle(height: u32) -> usize
     (1 << height) - 1
 }
 
-// What is claimed by all together.
+// What all claims come to: the sum in the middle has those up to it, and those behind it are added.
 #[tactic(auto, using(crate::proofs::Found::all_goes))]
 pub(crate) fn total(height: u32, sums: &[u64]) -> u64
     requires word { height ≤ 64 }
@@ -39,7 +39,7 @@ pub(crate) fn total(height: u32, sums: &[u64]) -> u64
     }
 }
 
-// The level, and at how many nodes it was decided where it lies, each by the sum there and one claim.
+// The level, and at how many nodes it was decided where it lies. At each of them one sum and one claim were read.
 #[derive(Clone, Copy, Debug, PartialEq, Eq)]
 pub struct Descent {
     pub level: Fraction,
@@ -59,7 +59,8 @@ impl Descent {
     }
 }
 
-// Goes down from the middle of a tree so high, to where the level lies.
+// Goes down a tree so high to where the level lies. All claims up to the middle are filled if the target is more than they
+// come to and as much for each claim behind them as the last of them; otherwise the level lies before the middle.
 #[tactic(auto, using(crate::proofs::Ways::goes))]
 pub(crate) fn descend(height: u32, sums: &[u64], claims: &[u64], target: u64) -> Descent
     requires word { height ≤ 64 }

@@ -4,8 +4,8 @@ ghost use Rattle.sums.specs.Renewing.{Renewed};
 
 use crate::descending::{height, middle, total};
 
-// Renews the sums over claims, after those from one place on and before another have changed. Only the sums over these are
-// written.
+// Renews the sums over claims after those from one place on and before another have changed. Only sums that have one of
+// these are written.
 #[tactic(auto, using(crate::proofs::Nodes::height_room))]
 pub(crate) fn renew(sums: &mut [u64], claims: &[u64], from: usize, to: usize)
     requires paired { length sums.old ≡ length claims.now }
@@ -15,7 +15,7 @@ pub(crate) fn renew(sums: &mut [u64], claims: &[u64], from: usize, to: usize)
     renew_in(height(claims.len()), sums, claims, from, to);
 }
 
-// Makes the nodes of a tree so high right again, after claims from one place on and before another have changed.
+// The same for a tree so high.
 #[tactic(auto, using(crate::proofs::Written::renewed))]
 fn renew_in(height: u32, sums: &mut [u64], claims: &[u64], from: usize, to: usize)
     requires word { height ≤ 64 }

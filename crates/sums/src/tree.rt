@@ -1,4 +1,4 @@
-// A tree of sums over claims in ascending order: what all claims come to, and the level, are found by going down it.
+// A tree of sums over claims in ascending order: what all claims come to, and the level, are found going down it.
 ghost use Rattle.std.specs.Prelude.{◌≡◌, ◌≢◌, ◌≤◌, ◌<◌, ◌+◌, ◌*◌, ◌^◌, IfSome, IfNone, length, min, sum};
 ghost use Rattle.estate.specs.Limits.{most_there};
 ghost use Rattle.level.specs.Levels.{Fills};
@@ -43,7 +43,8 @@ impl<'a> Tree<'a> {
         total(height(self.sums.len()), self.sums)
     }
 
-    // Fills the target into the claims, each up to the level, and answers the level, as going through all of them does.
+    // Fills the target into the claims, each up to the level, and answers the level: the one that going through all claims
+    // gives.
     #[tactic(auto, using(crate::proofs::Ways::ways))]
     pub fn descend(&self, target: u64) -> Descent
         ensures descended { Descended self.now.claims.now self.now.sums.now target result }
