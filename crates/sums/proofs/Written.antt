@@ -9,10 +9,10 @@ use Rattle.std.proofs.lemmas.Grind.{elements}
 use Rattle.std.proofs.lemmas.Bool.{cases_lt}
 use Rattle.level.specs.Words.{held}
 use Rattle.sums.specs.Nodes.{first, node, AreSums}
-use Rattle.sums.specs.Descending.{all_of, All, IsMiddle}
+use Rattle.sums.specs.Descending.{total_of, Totals, IsMiddle}
 use Rattle.sums.specs.Renewing.{Outside, Renewal, Renewed}
 use Rattle.sums.proofs.Nodes.{first_middle, drop-take-part, first_right, node_middle, node_left, node_right}
-use Rattle.sums.proofs.Found.{all_is, all_sums, room_before, room_taken, room_behind}
+use Rattle.sums.proofs.Found.{total_is, total_sums, room_before, room_taken, room_behind}
 
 -- nothing, where no claim before b has changed, or none that is there from a on
 renewal_none : (a b : ℕ) (ks ws : List ℕ) → length ws ≡ length ks → (b ≡ 0) ⊎ (length ks ≤ a) → Renewal a b ks ws ws
@@ -87,10 +87,10 @@ module _ (h m a b : ℕ) (middle : m + 1 ≡ 2 ^ h) (ks ws : List ℕ) (few : le
   outside_right k room (inl l) = inl (omega arith)
   outside_right k room (inr g) = inr (omega (arith, first_right h m middle k room, g))
 
-  summed : (left : List ℕ) → AreSums (take m ks) left → held (all_of left + slice_index ks m) ≡ held (sum (take (m + 1) ks))
+  summed : (left : List ℕ) → AreSums (take m ks) left → held (total_of left + slice_index ks m) ≡ held (sum (take (m + 1) ks))
   summed left tree =
       let long = tree.long ∙ length-take-le m ks (omega arith) in
-      let front = sym (all_is h left (omega (arith, long))) ∙ all_sums h (take m ks) left (omega (arith, length-take-le m ks (omega arith))) tree in
+      let front = sym (total_is h left (omega (arith, long))) ∙ total_sums h (take m ks) left (omega (arith, length-take-le m ks (omega arith))) tree in
       rw front (omega (arith, sum_by_more (λ x. x) ks m 0 some))
 
   -- what stands before a place in its own part of the tree
@@ -98,25 +98,25 @@ module _ (h m a b : ℕ) (middle : m + 1 ≡ 2 ^ h) (ks ws : List ℕ) (few : le
     abbrev all_three : List ℕ
     all_three = left ++ (v ∷ right)
 
-    same_left : (j : ℕ) → j < m → held (all_of (drop (first j) (take j left)) + slice_index (take m ks) j) ≡ held (all_of (drop (first j) (take j all_three)) + slice_index ks j)
+    same_left : (j : ℕ) → j < m → held (total_of (drop (first j) (take j left)) + slice_index (take m ks) j) ≡ held (total_of (drop (first j) (take j all_three)) + slice_index ks j)
     same_left j i =
-        ap (λ xs. held (all_of (drop (first j) xs) + slice_index (take m ks) j)) (sym (take-append-le j left (v ∷ right) (omega arith)))
-        ∙ ap (λ c. held (all_of (drop (first j) (take j all_three)) + c)) (get_or-take m ks j 0 i)
+        ap (λ xs. held (total_of (drop (first j) xs) + slice_index (take m ks) j)) (sym (take-append-le j left (v ∷ right) (omega arith)))
+        ∙ ap (λ c. held (total_of (drop (first j) (take j all_three)) + c)) (get_or-take m ks j 0 i)
 
-    same_middle : held (all_of left + slice_index ks m) ≡ held (all_of (drop (first m) (take m all_three)) + slice_index ks m)
+    same_middle : held (total_of left + slice_index ks m) ≡ held (total_of (drop (first m) (take m all_three)) + slice_index ks m)
     same_middle = rw (first_middle h m middle, take_at left (v ∷ right) m size) refl
 
-    same_right : (k : ℕ) → k + 1 < 2 ^ h → held (all_of (drop (first k) (take k right)) + slice_index (drop (m + 1) ks) k) ≡ held (all_of (drop (first (m + 1 + k)) (take (m + 1 + k) all_three)) + slice_index ks (m + 1 + k))
+    same_right : (k : ℕ) → k + 1 < 2 ^ h → held (total_of (drop (first k) (take k right)) + slice_index (drop (m + 1) ks) k) ≡ held (total_of (drop (first (m + 1 + k)) (take (m + 1 + k) all_three)) + slice_index ks (m + 1 + k))
     same_right k room =
         let part : drop (first k) (take k right) ≡ drop (first (m + 1 + k)) (take (m + 1 + k) all_three) =
         ap (λ xs. drop (first k) (take k xs)) (sym (drop_right m v left right size))
         ∙ sym (drop-take-part (first k) k (m + 1 + k) (m + 1) all_three refl)
         ∙ ap (λ n. drop n (take (m + 1 + k) all_three)) (sym (first_right h m middle k room)) in
-        rw part (ap (λ c. held (all_of (drop (first (m + 1 + k)) (take (m + 1 + k) all_three)) + c)) (get_or-drop (m + 1) ks k 0))
+        rw part (ap (λ c. held (total_of (drop (first (m + 1 + k)) (take (m + 1 + k) all_three)) + c)) (get_or-drop (m + 1) ks k 0))
 
   -- a tree one higher, of its two parts and the middle
   module _ (left right : List ℕ) (v : ℕ) (l : Renewal a b (take m ks) (take m ws) left) (r : Renewal (a - (m + 1)) (b - (m + 1)) (drop (m + 1) ks) (drop (m + 1) ws) right) where
-    joined : (m < a → v ≡ slice_index ws m) → (a ≤ m → v ≡ held (all_of left + slice_index ks m)) → Renewal a b ks ws (left ++ (v ∷ right))
+    joined : (m < a → v ≡ slice_index ws m) → (a ≤ m → v ≡ held (total_of left + slice_index ks m)) → Renewal a b ks ws (left ++ (v ∷ right))
     joined kept made =
         let new = left ++ (v ∷ right) in
         let front = length-take-le m ks (omega arith) in
@@ -133,7 +133,7 @@ module _ (h m a b : ℕ) (middle : m + 1 ≡ 2 ^ h) (ks ws : List ℕ) (few : le
               (λ j i g out. on_left j i ∙ l.untouched j (omega arith) out ∙ get_or-take m ws j 0 i)
               (λ g out. here ∙ kept (middle_outside out))
               (λ k g out. on_right k ∙ r.untouched k (omega arith) (right_outside k (omega arith) out) ∙ get_or-drop (m + 1) ws k 0);
-          renewed = by_place m (λ j. a ≤ j → j < length ws → first j < b → slice_index new j ≡ held (all_of (drop (first j) (take j new)) + slice_index ks j))
+          renewed = by_place m (λ j. a ≤ j → j < length ws → first j < b → slice_index new j ≡ held (total_of (drop (first j) (take j new)) + slice_index ks j))
               (λ j i g t low. on_left j i ∙ l.renewed j g (omega arith) low ∙ same_left left right v size j i)
               (λ g t low. here ∙ made g ∙ same_middle left right v size)
               (λ k g t low. let room : k + 1 < 2 ^ h = omega arith in on_right k ∙ r.renewed k (omega arith) (omega arith) (omega (arith, first_right h m middle k room)) ∙ same_right left right v size k room);
@@ -166,15 +166,15 @@ module _ (g h m a b : ℕ) (ks ws : List ℕ) (less : g ≡ suc h) (is_middle : 
       rw all (joined h m a b is_middle ks ws (rw less at few) paired some span (take m ws) part (slice_index ws m) left (rw (ks_is, ws_is) at r) (λ past. refl) (λ first. absurd (omega arith)))
 
   -- with the words before the middle, and what is in it
-  module _ (left : List ℕ) (tot v : ℕ) (first : a ≤ m) (l : Renewed a b (take m ks) (take m ws) left) (t : All h (take m (left ++ drop m ws)) tot) (is : v ≡ held (tot + slice_index ks m)) where
+  module _ (left : List ℕ) (tot v : ℕ) (first : a ≤ m) (l : Renewed a b (take m ks) (take m ws) left) (t : Totals h (take m (left ++ drop m ws)) tot) (is : v ≡ held (tot + slice_index ks m)) where
     size : length left ≡ m
     unfolding Renewed
     size = l.long ∙ length-take-le m ws (omega arith)
 
     joined_at : (right : List ℕ) → Renewal (a - (m + 1)) (b - (m + 1)) (drop (m + 1) ks) (drop (m + 1) ws) right → Renewal a b ks ws (left ++ (v ∷ right))
-    unfolding Renewed IsMiddle All
+    unfolding Renewed IsMiddle Totals
     joined_at right r =
-        let all : tot ≡ all_of left = rw (take_at left (drop m ws) m size) at t ∙ all_is h left (omega (arith, size)) in
+        let all : tot ≡ total_of left = rw (take_at left (drop m ws) m size) at t ∙ total_is h left (omega (arith, size)) in
         joined h m a b is_middle ks ws (rw less at few) paired some span left right v l r (λ past. absurd (omega arith)) (λ first. is ∙ rw all refl)
 
     pub renewed_before : b ≤ m + 1 → Renewed a b ks ws (set (left ++ drop m ws) m v)

@@ -13,19 +13,20 @@ IsHeight n h = (h ≤ 64) × (n < 2 ^ h) × (2 ^ h ≤ 2 * n + 1)
 unfoldable pub IsMiddle : ℕ → ℕ → Type 0
 IsMiddle h m = m + 1 ≡ 2 ^ h
 
--- What words ws that are the sums over claims say that all these come to, told by a tree of height h: the sum in the middle, and
--- what those behind it come to.
-unfoldable pub all_in : ℕ → List ℕ → ℕ
-all_in zero ws = 0
-all_in (suc h) ws =
-    if nat_lt (length ws) (2 ^ h) then all_in h ws else held (slice_index ws (2 ^ h - 1) + all_in h (drop (2 ^ h) ws))
+-- What all claims come to, told by the words beside them in a tree of height h: the sum in the middle, and what those behind it
+-- tell.
+unfoldable pub total_in : ℕ → List ℕ → ℕ
+total_in zero ws = 0
+total_in (suc h) ws =
+    if nat_lt (length ws) (2 ^ h) then total_in h ws else held (slice_index ws (2 ^ h - 1) + total_in h (drop (2 ^ h) ws))
 
 -- the same in each tree that has room for them
-unfoldable pub all_of : List ℕ → ℕ
-all_of ws = all_in (length ws) ws
+unfoldable pub total_of : List ℕ → ℕ
+total_of ws = total_in (length ws) ws
 
-unfoldable pub All : ℕ → List ℕ → ℕ → Type 0
-All h ws r = r ≡ all_in h ws
+-- r is that
+unfoldable pub Totals : ℕ → List ℕ → ℕ → Type 0
+Totals h ws r = r ≡ total_in h ws
 
 -- what is found going down, and at how many nodes it was decided where it lies
 pub record Way : Type 0 where

@@ -1,7 +1,7 @@
 -- What is written of a tree of sums, after some claims have changed. Assumes nothing.
 use Rattle.std.specs.Prelude.{◌≡◌, ℕ, ◌<◌, ◌≤◌, ◌⊎◌, ◌+◌, List, length, take, drop, slice_index}
 use Rattle.level.specs.Words.{held}
-use Rattle.sums.specs.Descending.{all_of}
+use Rattle.sums.specs.Descending.{total_of}
 use Rattle.sums.specs.Nodes.{first, node, AreSums}
 
 -- the node at place j sums over none of the claims from place a on and before b
@@ -14,7 +14,7 @@ Outside a b j = (j < a) ⊎ (b ≤ first j)
 pub record Renewal (a b : ℕ) (ks ws new : List ℕ) : Type 0 where
   pub long : length new ≡ length ws
   pub untouched : (j : ℕ) → j < length ws → Outside a b j → slice_index new j ≡ slice_index ws j
-  pub renewed : (j : ℕ) → a ≤ j → j < length ws → first j < b → slice_index new j ≡ held (all_of (drop (first j) (take j new)) + slice_index ks j)
+  pub renewed : (j : ℕ) → a ≤ j → j < length ws → first j < b → slice_index new j ≡ held (total_of (drop (first j) (take j new)) + slice_index ks j)
   pub sums : length ws ≡ length ks → ((j : ℕ) → j < length ks → Outside a b j → slice_index ws j ≡ node ks j) → AreSums ks new
 
 unfoldable pub Renewed : ℕ → ℕ → List ℕ → List ℕ → List ℕ → Type 0

@@ -1,7 +1,7 @@
 // The ways down a tree of sums. A way begins at the node in the middle; what lies before it, and what lies behind it, are trees
 // of their own, one less high. A tree of height 0 has no node.
 ghost use Rattle.std.specs.Prelude.{◌≡◌, ◌≤◌, ◌<◌, ◌+◌, ◌^◌, length};
-ghost use Rattle.sums.specs.Descending.{All, IsHeight, IsMiddle, Goes};
+ghost use Rattle.sums.specs.Descending.{Goes, IsHeight, IsMiddle, Totals};
 
 use level::Fraction;
 
@@ -23,10 +23,10 @@ pub(crate) fn middle(height: u32) -> usize
 }
 
 // What all claims come to: the sum in the middle has those up to it, and those behind it are added.
-#[tactic(auto, using(crate::proofs::Found::all_goes))]
+#[tactic(auto, using(crate::proofs::Found::total_goes))]
 pub(crate) fn total(height: u32, sums: &[u64]) -> u64
     requires word { height ≤ 64 }
-    ensures { All height sums.now result }
+    ensures { Totals height sums.now result }
 {
     let Some(height) = height.checked_sub(1) else {
         return 0;

@@ -5,7 +5,7 @@ ghost use Rattle.level.specs.Levels.{Fills};
 ghost use Rattle.level.specs.Sides.{divided_of};
 ghost use Rattle.level.specs.Terms.{Agreed, Found};
 ghost use Rattle.level.specs.Words.{held};
-ghost use Rattle.sums.specs.Descending.{all_of};
+ghost use Rattle.sums.specs.Descending.{total_of};
 ghost use Rattle.sums.specs.Nodes.{AreSums};
 
 use crate::descending::{Descent, descend, height, total};
@@ -37,7 +37,7 @@ impl<'a> Tree<'a> {
     // What is claimed by all together, or the largest number that a word holds, where it is more.
     #[tactic(auto, using(crate::proofs::Found::in_all))]
     pub fn total(&self) -> u64
-        ensures all { result ≡ all_of self.now.sums.now }
+        ensures all { result ≡ total_of self.now.sums.now }
         ensures sum { AreSums self.now.claims.now self.now.sums.now → result ≡ held (sum self.now.claims.now) }
     {
         total(height(self.sums.len()), self.sums)
@@ -68,7 +68,7 @@ impl<'a> Tree<'a> {
     // The terms on which what is there is divided among the claims; none where more is there than may be.
     pub fn terms(&self, there: u64) -> Option<Terms>
         ensures none { IfNone result (most_there < there) }
-        ensures some { IfSome result (λ terms. (there ≤ most_there) × Leads (min there (all_of self.now.sums.now)) (all_of self.now.sums.now) self.now terms) }
+        ensures some { IfSome result (λ terms. (there ≤ most_there) × Leads (min there (total_of self.now.sums.now)) (total_of self.now.sums.now) self.now terms) }
         ensures found { IsTree self.now → Found there self.now.claims.now result }
     {
         let estate = Estate::new(there, self.total())?;
