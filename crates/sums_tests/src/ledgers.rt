@@ -60,14 +60,14 @@ const ADDED: &[([[u64; 4]; 3], usize, u64, usize, [[u64; 4]; 3])] = &[
         [[6, 0, 5, 0], [0, 0, 5, 6], [0, 0, 5, 11]],
     ),
     (
-        [[MOST, 1, 8, 8], [1, MOST, 8, 8], [1, MOST, 8, 8]],
+        [[MOST, 5, 8, 8], [5, MOST, 8, 8], [5, MOST, 8, 8]],
         2,
         MOST - 1,
         5,
         [
-            [MOST, 1, MOST - 1, 8],
-            [1, MOST - 1, MOST, 8],
-            [1, MOST, MOST, 8],
+            [MOST, 5, MOST - 1, 8],
+            [5, MOST - 1, MOST, 8],
+            [5, MOST, MOST, 8],
         ],
     ),
 ];
