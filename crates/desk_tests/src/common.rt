@@ -1,7 +1,9 @@
 // What is lent, and how a call is answered.
+ghost use Rattle.std.specs.Prelude.{◌≤◌};
+
 use desk::call;
 use std::process::Abort;
-use wire::{Answer, Call};
+use wire::{Answer, Call, Refusal, TurnedAway};
 
 // The largest word, and the most cents of one call.
 pub(crate) const MOST: u64 = 18446744073709551615;
@@ -11,20 +13,34 @@ pub(crate) const MUCH: u64 = 1_000_000_000;
 // What words of memory hold before a desk is opened.
 pub(crate) const HELD: u64 = 11;
 
-// Memory that held one number all over, and holds a header, and words from the 64th on.
-pub(crate) fn memory(held: u64, header: [u64; 3], behind: &[u64]) -> [u64; 72] {
-    let mut words = [held; 72];
-    words[..3].copy_from_slice(&header);
-    for (word, other) in words[64..].iter_mut().zip(behind) {
-        *word = *other;
-    }
-    words
-}
+// How many words are lent: four more than a desk for eight creditors asks for.
+pub(crate) const WORDS: usize = 92;
 
-// Memory in which a desk was opened: its spare words are 0, and its register stands behind them.
-pub(crate) fn desk_of(header: [u64; 3], register: &[u64]) -> [u64; 72] {
-    let mut words = memory(HELD, header, register);
-    words[3..64].fill(0);
+// Too little is lent with a call, or no desk is there.
+pub(crate) const NOT_LENT: TurnedAway = TurnedAway {
+    why: Refusal::NotLent,
+    place: 1,
+};
+
+// The three rows of a ledger, each as long as there are claims: these as they came, the same in order, and the sums over
+// those in order. Of the sums the one at place j begins with the claim at place j & (j + 1), and ends with that at place j.
+pub(crate) type Ledger<'a> = [&'a [u64]; 3];
+
+// Memory in which a desk was opened for at most eight: behind the numbers of its header, and behind each row of its ledger,
+// its words are 0.
+pub(crate) fn desk_of(limit: usize, there: u64, ledger: Ledger) -> [u64; WORDS]
+    requires { limit ≤ 8 }
+{
+    let mut words = [HELD; WORDS];
+    words[..64 + 3 * limit].fill(0);
+    words[0] = limit as u64;
+    words[1] = there;
+    words[2] = ledger[0].len() as u64;
+    for (i, row) in ledger.iter().enumerate() {
+        for (word, number) in words[64 + i * limit..].iter_mut().zip(*row) {
+            *word = *number;
+        }
+    }
     words
 }
 

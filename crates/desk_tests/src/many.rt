@@ -1,5 +1,5 @@
 // As many cents, and as many creditors, as there may be.
-use crate::common::{HELD, MUCH, assert_call, desk_of};
+use crate::common::{HELD, MUCH, NOT_LENT, WORDS, assert_call, desk_of};
 use desk::open;
 use std::process::Abort;
 use std::test::Fail;
@@ -12,22 +12,17 @@ const NO_ROOM: TurnedAway = TurnedAway {
     place: 0,
 };
 
-const NOT_LENT: TurnedAway = TurnedAway {
-    why: Refusal::NotLent,
-    place: 1,
-};
-
 // A thousand times as much as may come at once, and one cent.
 #[test]
 fn as_many_cents_as_may_be(rt: HostRuntime) -> Result<(), Fail> {
-    let mut mem = [HELD; 72];
+    let mut mem = [HELD; WORDS];
     open(&mut mem, 3)?;
     for i in 0..1000 {
         let there = (i + 1) * MUCH;
         assert_call(&rt, &mut mem, Come(MUCH), 48, &Number(there));
     }
     assert_call(&rt, &mut mem, Come(1), 48, &Refused(NO_ROOM));
-    assert!(rt; mem == desk_of([3, 1_000_000_000_000, 0], &[0; 6]));
+    assert!(rt; mem == desk_of(3, 1_000_000_000_000, [&[]; 3]));
     Ok(())
 }
 
@@ -38,13 +33,16 @@ fn fill(rt: &impl Abort, mem: &mut [u64]) {
     }
 }
 
-// There is no room for one more, and a header that says so is no desk's. The last claim becomes one cent, and 3,000 cents
-// come: the last has half a cent, and each of the others 5,999 parts of 2,046; 954 of them have three cents, and 69 two.
+// There is no room for one more, and a header that says so is no desk's. The last claim becomes one cent, the first in
+// order: each sum from place 0 on is nine cents less. 3,000 cents come: the last has half a cent, and each of the others
+// 5,999 parts of 2,046; 954 of them have three cents, and 69 two.
 #[test]
 fn as_many_creditors_as_may_be(rt: HostRuntime) -> Result<(), Fail> {
-    let mut mem = [HELD; 2114];
+    let mut mem = [HELD; 3138];
     open(&mut mem, 1024)?;
     fill(&rt, &mut mem);
+    assert!(rt; mem[2110..2120] == [10, 10, 10, 20, 10, 40, 10, 20, 10, 80][..]);
+    assert!(rt; mem[3132..] == [10, 20, 10, 10240, HELD, HELD][..]);
     let before = mem;
     assert_call(&rt, &mut mem, Claim(10), 8216, &Refused(NO_ROOM));
     assert!(rt; mem == before);
@@ -55,7 +53,9 @@ fn as_many_creditors_as_may_be(rt: HostRuntime) -> Result<(), Fail> {
     assert_call(&rt, &mut mem, Prove(1023, 1), 8216, &Number(1023));
     assert_call(&rt, &mut mem, Come(3000), 8216, &Number(3000));
     assert!(rt; mem[1086..1090] == [10, 1, 1, 10][..]);
-    assert!(rt; mem[2111..] == [10, HELD, HELD][..]);
+    assert!(rt; mem[2110..2120] == [10, 10, 1, 11, 10, 31, 10, 20, 10, 71][..]);
+    assert!(rt; mem[2623..2625] == [5111, 10][..]);
+    assert!(rt; mem[3132..] == [10, 20, 10, 10231, HELD, HELD][..]);
     let mut shares = [5999; 1024];
     shares[1023] = 1023;
     assert_call(&rt, &mut mem, Shares, 8216, &Parts(2046, &shares));

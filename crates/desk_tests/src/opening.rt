@@ -1,14 +1,14 @@
 // How much a desk asks for, and what opening one leaves.
-use crate::common::{HELD, desk_of};
+use crate::common::{HELD, WORDS, desk_of};
 use desk::{Loan, asked, open};
 use wire::{Place, Refusal, TurnedAway};
 
 // How many creditors, and the words and the bytes for so many.
 const ASKED: &[(usize, usize, usize)] = &[
     (0, 64, 24),
-    (1, 66, 32),
-    (64, 192, 536),
-    (1024, 2112, 8216),
+    (1, 67, 32),
+    (64, 256, 536),
+    (1024, 3136, 8216),
 ];
 
 // No more than 64 bytes of memory for each creditor, and 4,096 besides.
@@ -23,31 +23,31 @@ fn loans(rt: HostRuntime) {
     assert_eq!(rt; asked(1025), Err(TurnedAway { why, place: 0 }));
 }
 
-// How many creditors, how many words are lent, and at which place that is refused: a creditor too many, so many that twice
-// as many are cut to 0 in a word, a word too few.
+// How many creditors, how many words are lent, and at which place that is refused: a creditor too many, so many that three
+// times as many are cut to 2 in a word, a word too few.
 const UNOPENED: &[(usize, usize, Place)] = &[
-    (1025, 72, 0),
-    (1 << 63, 72, 0),
+    (1025, WORDS, 0),
+    (6148914691236517206, WORDS, 0),
     (0, 63, 1),
-    (3, 69, 1),
+    (3, 72, 1),
 ];
 
 #[test]
 fn not_opened_and_nothing_is_written(rt: HostRuntime) {
     for &(limit, words, place) in UNOPENED {
-        assert!(rt; words <= 72);
-        let mut mem = [HELD; 72];
+        assert!(rt; words <= WORDS);
+        let mut mem = [HELD; WORDS];
         let why = Refusal::NotLent;
         let opened = open(&mut mem[..words], limit);
         assert_eq!(rt; opened, Err(TurnedAway { why, place }));
-        assert!(rt; mem == [HELD; 72]);
+        assert!(rt; mem == [HELD; WORDS]);
     }
 }
 
 // What lies behind stays.
 #[test]
 fn opened_whatever_memory_held(rt: HostRuntime) {
-    let mut mem = [HELD; 72];
+    let mut mem = [HELD; WORDS];
     assert_eq!(rt; open(&mut mem, 3), Ok(()));
-    assert!(rt; mem == desk_of([3, 0, 0], &[0; 6]));
+    assert!(rt; mem == desk_of(3, 0, [&[]; 3]));
 }
