@@ -63,6 +63,7 @@ fn amend(rows: &mut [u64], count: usize, i: usize, claim: u64) -> Result<Moved, 
 #[tactic(auto, using(crate::proofs::Ledgers::reads))]
 pub fn tree_of(rows: &[u64], count: usize) -> Option<Tree<'_>>
     ensures none { IfNone result (room rows.now < count) }
+    ensures some { IfSome result (λ _. count ≤ room rows.now) }
     ensures claims { IfSome result (λ t. t.claims.now ≡ take count (drop (room rows.now) rows.now)) }
     ensures sums { IfSome result (λ t. t.sums.now ≡ take count (drop (2 * room rows.now) rows.now)) }
     ensures reads { Reads }
