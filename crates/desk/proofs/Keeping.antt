@@ -14,7 +14,7 @@ use Rattle.estate.specs.Right.{says}
 use Rattle.register.specs.Rows.{Unchanged}
 use Rattle.register.specs.declared.rows.Unfit.{Unfit}
 use Rattle.register.specs.declared.rows.Unfit.TheVariants as unfit
-use Rattle.sums.specs.Ledger.{room, register}
+use Rattle.sums.specs.Ledger.{room, register, Enters, Amends}
 use Rattle.sums.proofs.Came.{halves, entered_long, entered_came, amended_long, amended_came}
 use Rattle.wire.specs.declared.refusals.TurnedAway.{TurnedAway}
 use Rattle.wire.specs.declared.refusals.Refusal.TheVariants.{NoRoom, NotThere}
@@ -74,7 +74,7 @@ module _ (m : List ℕ) (limit count k : ℕ) (is_limit : limit ≡ slice_index 
   part_long =
       length-take-le k (drop header_words m) (omega (arith, length-drop header_words m, headed.words, is_limit))
 
-  pub part_room : room part0 ≡ limit
+  part_room : room part0 ≡ limit
   part_room = let l = part_long in omega arith
 
   count_is : length (estate_of m).claimed ≡ count
@@ -100,7 +100,7 @@ module _ (m : List ℕ) (limit count k : ℕ) (is_limit : limit ≡ slice_index 
       bounded m _ (put_below header_words k 0 m part (omega arith) room) (drop-put_mid header_words k m part _ (omega (arith, span, is_limit)) room (long ∙ part_long))
 
   pub claim_done : (c : ℕ) (part : List ℕ) → Grown count c part0 part → c ≤ most_cents → Does (claims c) m (slice_set (put_mid header_words k m part) 2 (count + 1)) (Ok count)
-  unfolding says Does Grown
+  unfolding says Does Grown Enters
   claim_done c part (at, a) few =
       let n = count_is in
       let long = entered_long count c part0 part at a in
@@ -114,16 +114,14 @@ module _ (m : List ℕ) (limit count k : ℕ) (is_limit : limit ≡ slice_index 
             let long : count + 1 ≡ length cs = omega (arith, length_push (estate_of m).claimed c) in
             let w = claims_writes _ (estate_of m) (rest_of m) s.fair.few cs part (omega (arith, is_limit)) new in
             let k = span in
-            let l = is_limit in
-            let d = s.laid in
             served_by (claims c) m _ _ t (cc) (ap number (sym n)),
         told_by (claims c) m (slice_set (put_mid header_words k m part) 2 (count + 1)) _ t (claims_told m headed k part (count + 1) _ (omega (arith, same, part_long)) (entered_came count c part0 part at a ∙ ap (λ cs. cs ++ c ∷ []) came)) (ap number (sym n)),
         tt,
         bounded m _ (grind (arith, places, b.limit)) (drop-set-lt (words_asked (slice_index m 0)) (put_mid header_words k m part) 2 _ (omega arith) ∙ rw b.limit at b.rest),
       )
 
-  pub claim_full : (c : ℕ) (part : List ℕ) (t : TurnedAway) → Full count part0 part → c ≤ most_cents → t ≡ record { why = NoRoom; place = 0 } → Does (claims c) m (put_mid header_words k m part) (Err t)
-  unfolding Does Full
+  pub claim_full : (c : ℕ) (part : List ℕ) (t : TurnedAway) → Full count c part0 part → c ≤ most_cents → t ≡ record { why = NoRoom; place = 0 } → Does (claims c) m (put_mid header_words k m part) (Err t)
+  unfolding Does Full Enters
   claim_full c part t e few is =
       let n = count_is in
       let same : put_mid header_words k m part ≡ m = rw e.1 unwritten in
@@ -136,24 +134,20 @@ module _ (m : List ℕ) (limit count k : ℕ) (is_limit : limit ≡ slice_index 
       )
 
   pub prove_done : (i x c : ℕ) (part : List ℕ) → Altered count i c part0 part → c ≤ most_cents → x ≡ i → Does (proves i c) m (put_mid header_words k m part) (Ok x)
-  unfolding says Does Altered
-  prove_done i x c part b few same =
-      let a = b.2 in
+  unfolding says Does Altered Amends
+  prove_done i x c part (moved, a) few same =
       let n = count_is in
-      let kept = amended_long count c part0 part i b.0 b.1 a in
-      let there = kept.0 in
+      let kept = amended_long count c part0 part i moved.from moved.to a in
       let long = kept.2 in
       let t : turned (limits_of m) (estate_of m) (proves i c) ≡ 0 = grind (arith, nat_tests) in (
         λ s.
             let cs = slice_set (estate_of m).claimed i c in
             let long = length-set (estate_of m).claimed i c in
-            let new = rows_changed _ (estate_of m) s.fair.few i c b.0 b.1 part (rw (part_is s, sym n) at a) in
+            let new = rows_changed _ (estate_of m) s.fair.few i c moved.from moved.to part (rw (part_is s, sym n) at a) in
             let w = proves_writes _ (estate_of m) (rest_of m) s.fair.few cs part (omega (arith, s.fair.few)) new long in
             let k = span in
-            let l = is_limit in
-            let d = s.laid in
             served_by (proves i c) m _ _ t (cc) (ap number same),
-        inl (told_by (proves i c) m (put_mid header_words k m part) _ t (proves_told m headed k part _ (omega (arith, long, part_long)) (rw is_count at (amended_came count c part0 part i b.0 b.1 a) ∙ ap (λ cs. slice_set cs i c) (rw is_count at came))) (ap number same)),
+        inl (told_by (proves i c) m (put_mid header_words k m part) _ t (proves_told m headed k part _ (omega (arith, long, part_long)) (rw is_count at (amended_came count c part0 part i moved.from moved.to a) ∙ ap (λ cs. slice_set cs i c) (rw is_count at came))) (ap number same)),
         tt,
         put_bounded part long,
       )
@@ -163,13 +157,13 @@ module _ (m : List ℕ) (limit count k : ℕ) (is_limit : limit ≡ slice_index 
   missing i s unfit.OutOfOrder u =
       absurd (rows_ordered _ (estate_of m) s.fair.few i (rw (part_is s, sym count_is) at u))
 
-  pub prove_missing : (i c : ℕ) (part : List ℕ) (t : TurnedAway) → Unaltered count i part0 part → c ≤ most_cents → t ≡ record { why = NotThere; place = 0 } → Does (proves i c) m (put_mid header_words k m part) (Err t)
-  unfolding Does Unaltered
-  prove_missing i c part t b few is =
+  pub prove_missing : (i c : ℕ) (part : List ℕ) (t : TurnedAway) → Unaltered count i c part0 part → c ≤ most_cents → t ≡ record { why = NotThere; place = 0 } → Does (proves i c) m (put_mid header_words k m part) (Err t)
+  unfolding Does Unaltered Amends
+  prove_missing i c part t (why, b) few is =
       let n = count_is in
-      let same : put_mid header_words k m part ≡ m = rw b.2 unwritten in
+      let same : put_mid header_words k m part ≡ m = rw b.1 unwritten in
       rw same (
-        λ s. let none = missing i s b.0 b.1 in refused_by (proves i c) m _ (grind (arith, nat_tests)) (rw is (grind (arith, nat_tests))) s,
+        λ s. let none = missing i s why b.0 in refused_by (proves i c) m _ (grind (arith, nat_tests)) (rw is (grind (arith, nat_tests))) s,
         inr (rw is refl, refl),
         refl,
         unchanged m,

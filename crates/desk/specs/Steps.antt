@@ -1,11 +1,11 @@
 -- What the functions behind a call read and leave. Assumes nothing.
-use Rattle.std.specs.Prelude.{◌≡◌, ℕ, ◌<◌, ◌≤◌, List, length, Ok, Err, Result, IfErr, slice_index}
+use Rattle.std.specs.Prelude.{◌≡◌, ℕ, ◌<◌, List, length, Some, None, Ok, Err, Result, IfErr, slice_index}
 use Rattle.level.specs.declared.closed.Terms.{Terms}
 use Rattle.shares.specs.declared.written.Shares.{Shares}
 use Rattle.shares.specs.Laws.{TermsFor}
-use Rattle.register.specs.Rows.{Unchanged}
-use Rattle.sums.specs.Ledger.{room, register, Entered, Amended}
+use Rattle.register.specs.declared.row.Moved.{Moved}
 use Rattle.register.specs.declared.rows.Unfit.{Unfit}
+use Rattle.sums.specs.Ledger.{Enters, Amends}
 use Rattle.wire.specs.Answers.{answer_row, Sendable}
 use Rattle.wire.specs.Written.{Stands as IsWritten}
 use Rattle.wire.specs.declared.refusals.TurnedAway.{TurnedAway}
@@ -40,19 +40,19 @@ Parted m s = Termed m s.terms × (s.claims.now ≡ (estate_of m).claimed)
 
 -- the words ws of a ledger of n claims have become new: with one more claim, last
 unfoldable pub Grown : ℕ → ℕ → List ℕ → List ℕ → Type 0
-Grown n c ws new = (at : ℕ) × Entered n c at ws new
+Grown n c ws new = (at : ℕ) × Enters n c ws new (Some at)
 
 -- or are as they were, since there is no room
-unfoldable pub Full : ℕ → List ℕ → List ℕ → Type 0
-Full n ws new = (room ws ≤ n) × (new ≡ ws)
+unfoldable pub Full : ℕ → ℕ → List ℕ → List ℕ → Type 0
+Full n c ws new = Enters n c ws new None
 
 -- or have become new with another claim at place i
 unfoldable pub Altered : ℕ → ℕ → ℕ → List ℕ → List ℕ → Type 0
-Altered n i c ws new = (from to : ℕ) × Amended n i c from to ws new
+Altered n i c ws new = (moved : Moved) × Amends n i c ws new (Ok moved)
 
 -- or are as they were, since that does not fit
-unfoldable pub Unaltered : ℕ → ℕ → List ℕ → List ℕ → Type 0
-Unaltered n i ws new = (why : Unfit) × Unchanged n i (register ws) why × (new ≡ ws)
+unfoldable pub Unaltered : ℕ → ℕ → ℕ → List ℕ → List ℕ → Type 0
+Unaltered n i c ws new = (why : Unfit) × Amends n i c ws new (Err why)
 
 -- a number, or a call that is turned away, as an answer
 abbrev pub outcome : Result ℕ TurnedAway → Answer

@@ -57,19 +57,19 @@ impl Header {
 }
 
 // Adds a claim to a ledger of so many.
-#[tactic(auto, unfolding(crate::specs::Steps::Grown, crate::specs::Steps::Full, sums::specs::Ledger::Enters))]
+#[tactic(auto, unfolding(crate::specs::Steps::Grown, crate::specs::Steps::Full))]
 fn add(rows: &mut [u64], count: usize, cents: u64) -> Option<usize>
     ensures some { IfSome result (λ _. Grown count cents rows.old rows.new) }
-    ensures none { IfNone result (Full count rows.old rows.new) }
+    ensures none { IfNone result (Full count cents rows.old rows.new) }
 {
     sums::add(rows, count, cents)
 }
 
 // Changes a claim of a ledger of so many.
-#[tactic(auto, unfolding(crate::specs::Steps::Altered, crate::specs::Steps::Unaltered, sums::specs::Ledger::Amends))]
+#[tactic(auto, unfolding(crate::specs::Steps::Altered, crate::specs::Steps::Unaltered))]
 fn change(rows: &mut [u64], count: usize, i: usize, cents: u64) -> Option<Moved>
     ensures some { IfSome result (λ _. Altered count i cents rows.old rows.new) }
-    ensures none { IfNone result (Unaltered count i rows.old rows.new) }
+    ensures none { IfNone result (Unaltered count i cents rows.old rows.new) }
 {
     sums::change(rows, count, i, cents).ok()
 }

@@ -1,7 +1,7 @@
 -- A register keeps its claims, as they came and in order. Assumes nothing.
 use Rattle.std.proofs.Common.{◌≡◌, ℕ, ◌+◌, ◌/◌, ◌<◌, ◌≤◌, List, [], ◌∷◌, ◌++◌, length, get_or, take, drop, set, ap, ◌∙◌, arith}
 use borrow.Rule.Slice.PartMut.{put_mid}
-use Rattle.std.proofs.lemmas.List.{places, ext_get_or, length-set, set-get_or, length_push, set-append_left}
+use Rattle.std.proofs.lemmas.List.{places, ext_get_or, length-set, length_push, set-append_left}
 use Rattle.std.proofs.lemmas.Grind.{common_steps, elements}
 use Rattle.std.specs.List.Sorted.{IsNonDecreasing}
 use Rattle.estate.specs.Order.{sorted}
@@ -33,6 +33,11 @@ module _ (ws cs : List ℕ) (room : length cs ≤ middle ws) where
 
   pub kept_middle : middle (kept ws cs) ≡ middle ws
   kept_middle = ap (λ (n : ℕ). n / 2) kept_long
+
+  -- the claims in order are read where they stand
+  pub kept_order : part (middle ws) (length cs) (kept ws cs) ≡ sorted cs
+  kept_order =
+      second_part (over cs (take (middle ws) ws)) (sorted cs) (drop (middle ws) ws) (middle ws) (length cs) (grind (arith, places)) (length-sorted cs)
 
 -- a register in which c has been written at place i among the claims as they came
 module _ (ws cs : List ℕ) (room : length cs ≤ middle ws) (i c : ℕ) (h : i < middle ws) where
@@ -84,7 +89,7 @@ pub never_out_of_order : NeverOutOfOrder
 never_out_of_order i ws cs room m =
     let there = m.1 in
     let old = get_or (kept ws cs) i 0 in
-    let here : part (middle ws) (length cs) (kept ws cs) ≡ sorted cs = rw set-get_or at (kept_part ws cs room i old (omega arith)) in
+    let here = kept_order ws cs room in
     let came : old ≡ get_or cs i 0 = grind (arith, places) in
     let long = kept_long ws cs room in
     let has = has_sorted cs i there in

@@ -9,43 +9,38 @@ use Rattle.sums.specs.Ledger.{room, register, Resummed, Entered, Amended}
 -- what is the same below a place has the same words before it
 same_front : (n : ℕ) (xs ys : List ℕ) → n ≤ length xs → length xs ≡ length ys → ((k : ℕ) → k < n → slice_index xs k ≡ slice_index ys k) → take n xs ≡ take n ys
 same_front n xs ys few long same =
-    ext_get_or 0 _ _ (grind (arith, places)) (λ k h.
-    let at = same k (omega (arith, h, length-take n xs)) in
-    grind (arith, places))
+    ext_get_or 0 _ _ (grind (arith, places)) (λ k h. grind (arith, places))
 
 came_added : (n c at : ℕ) (ws new : List ℕ) → Addition n c at ws new → take (n + 1) new ≡ take n ws ++ c ∷ []
 came_added n c at ws new a =
-    let room = a.room in
     let long = a.inserted.carried.long in
-    let wide = length-set ws n c in
     let front = same_front (n + 1) new (slice_set ws n c) (omega arith) long (λ k h. a.inserted.carried.below k (omega (arith, a.inserted.fits.above)) (omega arith)) in
     let last : take (n + 1) (slice_set ws n c) ≡ take n ws ++ c ∷ [] = grind (arith, elements) in
     front ∙ last
 
 came_changed : (n i c from to : ℕ) (ws new : List ℕ) → Change n i c from to ws new → take n new ≡ slice_set (take n ws) i c
 came_changed n i c from to ws new a =
-    let room = a.room in
     let there = a.there in
     let long = a.replaced.carried.long in
-    let wide = length-set ws i c in
     let front = same_front n new (slice_set ws i c) (omega arith) long (λ k h. a.replaced.carried.below k (omega (arith, a.replaced.goes.above)) (omega (arith, a.replaced.stood.fits.above))) in
     front ∙ take-set-lt n ws i c there
 
+-- the register takes two of the three rows
+pub two_long : (ws : List ℕ) → length (register ws) ≡ 2 * room ws
+two_long ws = length-take-le _ ws (omega arith)
+
+pub halves : (ws : List ℕ) → middle (register ws) ≡ room ws
+halves ws = let long = two_long ws in omega arith
+
 -- rows of which n claims were in the register, and what has become of them
 module _ (n a b : ℕ) (ws front new : List ℕ) (r : Resummed n a b ws front new) (long : length front ≡ length (register ws)) (few : n ≤ room ws) where
-  two_long : length (register ws) ≡ 2 * room ws
-  two_long = length-take-le _ ws (omega arith)
-
   resummed_long : length new ≡ length ws
   resummed_long =
       ap length r.words
-      ∙ omega (arith, length-append {A = ℕ}, r.renewed.long, long, two_long, length-take n (drop (2 * room ws) ws), length-drop n (drop (2 * room ws) ws), length-drop (2 * room ws) ws)
+      ∙ omega (arith, length-append {A = ℕ}, r.renewed.long, long, two_long ws, length-take n (drop (2 * room ws) ws), length-drop n (drop (2 * room ws) ws), length-drop (2 * room ws) ws)
 
   resummed_front : (k : ℕ) → k ≤ n → take k new ≡ take k front
-  resummed_front k l = ap (take k) r.words ∙ take-append-le k front _ (omega (arith, long, two_long))
-
-pub halves : (ws : List ℕ) → middle (register ws) ≡ room ws
-halves ws = let long = length-take-le (2 * room ws) ws (omega arith) in omega arith
+  resummed_front k l = ap (take k) r.words ∙ take-append-le k front _ (omega (arith, long, two_long ws))
 
 module _ (n c : ℕ) (ws new : List ℕ) where
   pub entered_long : (at : ℕ) → Entered n c at ws new → (n < room ws) × (length new ≡ length ws)

@@ -8,9 +8,9 @@ use Rattle.std.proofs.lemmas.List.{length-take, take_all}
 use Rattle.std.proofs.lemmas.List.Sums.{sum_by-take-drop}
 use Rattle.std.proofs.lemmas.Nat.{pow_pos}
 use Rattle.level.specs.Words.{held}
-use Rattle.sums.specs.Nodes.{AreSums}
+use Rattle.sums.specs.Nodes.{sums_of}
 use Rattle.sums.specs.Descending.{total_in, total_of, Totals, IsHeight, IsMiddle}
-use Rattle.sums.proofs.Nodes.{height_room, node_middle, node_right}
+use Rattle.sums.proofs.Nodes.{AreSums, by_node, height_room, node_middle, node_right}
 
 -- what two sums come to, one of all that is claimed before a place and one of what is claimed behind it
 held-sum : (n : ℕ) (ks : List ℕ) → held (held (sum (take n ks)) + held (sum (drop n ks))) ≡ held (sum ks)
@@ -95,9 +95,9 @@ pub total_told : (h r : ℕ) (ws : List ℕ) → IsHeight (length ws) h → Tota
 unfolding Totals IsHeight
 total_told h r ws high is = is ∙ total_is h ws high.1
 
-pub total_summed : (h r : ℕ) (ks ws : List ℕ) → IsHeight (length ws) h → Totals h ws r → AreSums ks ws → r ≡ held (sum ks)
+pub total_summed : (h r : ℕ) (ks ws : List ℕ) → IsHeight (length ws) h → Totals h ws r → ws ≡ sums_of ks → r ≡ held (sum ks)
 unfolding Totals IsHeight
-total_summed h r ks ws high is t = is ∙ total_sums h ks ws (omega (arith, t.long, high.1)) t
+total_summed h r ks ws high is same = let t = by_node ks ws same in is ∙ total_sums h ks ws (omega (arith, t.long, high.1)) t
 
 pub ruleset in_all = (total_told, total_summed, height_room)
 

@@ -2,87 +2,68 @@
 use Rattle.std.proofs.Common.{◌≡◌, ℕ, ◌+◌, ◌-◌, ◌*◌, ◌/◌, ◌<◌, ◌≤◌, List, [], ◌∷◌, ◌++◌, length, take, drop, set, slice_index, slice_set, min, max, length-append, length-drop, get_or-drop, sum, refl, sym, ap, ◌∙◌, arith}
 use mathlib.Core.Logic.{◌⊎◌, inl, inr}
 use Rattle.std.proofs.Math.Logic.{⊎_elim}
-use Rattle.std.proofs.lemmas.List.{places, take-append-drop, take_at, drop_at, ext_get_or, length-take, length-take-le, get_or-take, get_or-set_other, get_or_append_left, length-set, length_push}
+use Rattle.std.proofs.lemmas.List.{places, take-append-drop, take_at, drop_at, ext_get_or, length-take-le, get_or-take, get_or-set_other, get_or_append_left, length-set, length_push}
 use Rattle.estate.specs.Order.{sorted}
 use Rattle.estate.proofs.Ordered.{length-sorted, rising_sorted}
-use Rattle.register.specs.Row.{Carried}
+use Rattle.register.specs.Row.{part, Carried}
 use Rattle.register.specs.Rows.{middle, kept, over}
-use Rattle.register.proofs.Keeping.{kept_long, kept_middle, adds as register_adds, changes as register_changes, never_out_of_order as register_ordered}
+use Rattle.register.proofs.Keeping.{kept_long, kept_middle, kept_order, adds as register_adds, changes as register_changes, never_out_of_order as register_ordered}
 use Rattle.level.specs.Words.{held}
 use Rattle.sums.specs.Nodes.{first, node, sums_of}
 use Rattle.sums.specs.Renewing.{Outside, Renewal}
 use Rattle.sums.specs.Ledger.{room, register, ledger, Resummed}
 use Rattle.sums.specs.Laws.{Adds, Changes, NeverOutOfOrder, Reads}
-use Rattle.sums.proofs.Nodes.{first_below, sums_are, are_sums}
+use Rattle.sums.proofs.Nodes.{first_below, sums_are}
+use Rattle.sums.proofs.Came.{two_long, halves}
 
--- the place i of a node that sums over no claim from a on and before b is before a, or from b on
-covered : (a b j i : ℕ) → first j ≤ i → i ≤ j → Outside a b j → (i < a) ⊎ (b ≤ i)
-covered a b j i low high (inl l) = inl (omega arith)
-covered a b j i low high (inr g) = inr (omega arith)
-
--- so the node is the same over claims that are the same at such places
+-- a node that sums over none of the claims that have changed is as it was
 same_node : (a b j : ℕ) (ks ls : List ℕ) → ((i : ℕ) → i ≤ j → (i < a) ⊎ (b ≤ i) → slice_index ls i ≡ slice_index ks i) → j < length ks → j < length ls → Outside a b j → node ls j ≡ node ks j
 same_node a b j ks ls same k l out =
     let part : drop (first j) (take (j + 1) ls) ≡ drop (first j) (take (j + 1) ks) =
     ext_get_or 0 _ _ (grind (arith, places)) (λ i h.
     let at : first j + i ≤ j = grind (arith, places, first_below j) in
-    let one = same (first j + i) at (covered a b j (first j + i) (omega arith) at out) in
     grind (arith, places)) in
     ap (λ xs. held (sum xs)) part
 
 -- sums that are renewed after claims ks have become ls, which are the same before place a and from b on
 resums : (a b : ℕ) (ks ls ws new : List ℕ) → Renewal a b ls ws new → length ws ≡ length ls → ((i : ℕ) → i < length ls → (i < a) ⊎ (b ≤ i) → slice_index ls i ≡ slice_index ks i) → ((j : ℕ) → j < length ls → Outside a b j → (j < length ks) × (slice_index ws j ≡ node ks j)) → new ≡ sums_of ls
 resums a b ks ls ws new r long same old =
-    are_sums ls new (r.sums long (λ j l out.
+    r.sums long (λ j l out.
     let was = old j l out in
-    was.1 ∙ sym (same_node a b j ks ls (λ i low. same i (omega arith)) was.0 l out)))
+    was.1 ∙ sym (same_node a b j ks ls (λ i low. same i (omega arith)) was.0 l out))
+
+-- what stands in the third row
+abbrev row : List ℕ → List ℕ → List ℕ
+row us cs = over (sums_of (sorted cs)) (drop (2 * room us) us)
 
 module _ (us cs : List ℕ) (few : length cs ≤ room us) where
-  two_long : length (register us) ≡ 2 * room us
-  two_long = length-take-le _ us (omega arith)
-
-  halves : middle (register us) ≡ room us
-  halves = let l = two_long in omega arith
-
   front_long : length (kept (register us) cs) ≡ 2 * room us
-  front_long = kept_long (register us) cs (omega (arith, halves)) ∙ two_long
-
-  -- what stands in the third row
-  abbrev row : List ℕ
-  row = over (sums_of (sorted cs)) (drop (2 * room us) us)
+  front_long = kept_long (register us) cs (omega (arith, halves us)) ∙ two_long us
 
   sums_long : length (sums_of (sorted cs)) ≡ length cs
   sums_long = (sums_are (sorted cs)).long ∙ length-sorted cs
 
-  row_long : length row ≡ length us - 2 * room us
+  row_long : length (row us cs) ≡ length us - 2 * room us
   row_long = omega (arith, length-append {A = ℕ}, sums_long, length-drop (length (sums_of (sorted cs))) (drop (2 * room us) us), length-drop (2 * room us) us)
 
   pub ledger_long : length (ledger us cs) ≡ length us
   ledger_long = omega (arith, length-append {A = ℕ}, front_long, row_long)
 
   first_two : register (ledger us cs) ≡ kept (register us) cs
-  first_two = rw ledger_long (take_at (kept (register us) cs) row (2 * room us) front_long)
+  first_two = rw ledger_long (take_at (kept (register us) cs) (row us cs) (2 * room us) front_long)
 
-  third : drop (2 * room (ledger us cs)) (ledger us cs) ≡ row
-  third = rw ledger_long (drop_at (kept (register us) cs) row (2 * room us) front_long)
+  third : drop (2 * room (ledger us cs)) (ledger us cs) ≡ row us cs
+  third = rw ledger_long (drop_at (kept (register us) cs) (row us cs) (2 * room us) front_long)
 
   -- a register is within the memory's first two rows
   fits : length cs ≤ middle (register us)
-  fits = omega (arith, halves)
+  fits = omega (arith, halves us)
 
 -- a ledger of no claims
 pub ledger_none : (us : List ℕ) → ledger us [] ≡ us
 unfolding sorted sums_of
 ledger_none us =
     rw (take-append-drop (middle (register us)) (register us)) (take-append-drop (2 * room us) us)
-
--- the claims in order in a register
-order_read : (ws cs : List ℕ) → length cs ≤ middle ws → take (length cs) (drop (middle ws) (kept ws cs)) ≡ sorted cs
-order_read ws cs few =
-    let front : length (over cs (take (middle ws) ws)) ≡ middle ws = omega (arith, length-append {A = ℕ}, length-drop (length cs) (take (middle ws) ws), length-take (middle ws) ws) in
-    let back = drop_at (over cs (take (middle ws) ws)) (over (sorted cs) (drop (middle ws) ws)) (middle ws) front in
-    let row = take_at (sorted cs) (drop (length (sorted cs)) (drop (middle ws) ws)) (length cs) (length-sorted cs) in
-    rw (back, row) refl
 
 -- behind what lies over a row the row is as it was
 drop-over : (n : ℕ) (xs ys : List ℕ) → length xs ≤ n → length xs ≤ length ys → drop n (over xs ys) ≡ drop n ys
@@ -93,7 +74,7 @@ module _ (us cs ds : List ℕ) (few : length cs ≤ room us) (fits_too : length 
   renewed : (n a b : ℕ) (new : List ℕ) → n ≡ length ds → Resummed n a b (ledger us cs) (kept (register us) ds) new → ((i : ℕ) → i < length ds → (i < a) ⊎ (b ≤ i) → slice_index (sorted ds) i ≡ slice_index (sorted cs) i) → ((j : ℕ) → j < length ds → Outside a b j → j < length cs) → new ≡ ledger us ds
   renewed n a b new count s same old =
       let r = rw count at s in
-      let half = halves us cs few in
+      let half = halves us in
       let long_ds = length-sorted ds in
       let long_cs = length-sorted cs in
       let sums_ds = sums_are (sorted ds) in
@@ -102,12 +83,12 @@ module _ (us cs ds : List ℕ) (few : length cs ≤ room us) (fits_too : length 
       let long = ledger_long us cs few in
       let wide = row_long us cs few in
       let order : take (length ds) (drop (room (ledger us cs)) (kept (register us) ds)) ≡ sorted ds =
-      ap (λ n. take (length ds) (drop n (kept (register us) ds))) (omega (arith, long, half)) ∙ order_read (register us) ds (omega (arith, half)) in
+      ap (λ n. take (length ds) (drop n (kept (register us) ds))) (omega (arith, long, half)) ∙ kept_order (register us) ds (omega (arith, half)) in
       let renewal = rw (row_is, order) at r.renewed in
       let sums : r.sums ≡ sums_of (sorted ds) =
-      resums a b (sorted cs) (sorted ds) (take (length ds) (row us cs few)) r.sums renewal (length-take-le (length ds) (row us cs few) (omega (arith, wide)) ∙ sym long_ds)
+      resums a b (sorted cs) (sorted ds) (take (length ds) (row us cs)) r.sums renewal (length-take-le (length ds) (row us cs) (omega (arith, wide)) ∙ sym long_ds)
       (λ i l. same i (omega (arith, long_ds)))
-      (λ j l out. let h = old j (omega (arith, long_ds)) out in (omega (arith, long_cs), get_or-take (length ds) (row us cs few) j 0 (omega (arith, long_ds)) ∙ get_or_append_left (sums_of (sorted cs)) _ 0 j (omega (arith, sums_cs.long, long_cs)) ∙ sums_cs.nodes j (omega (arith, long_cs)))) in
+      (λ j l out. let h = old j (omega (arith, long_ds)) out in (omega (arith, long_cs), get_or-take (length ds) (row us cs) j 0 (omega (arith, long_ds)) ∙ get_or_append_left (sums_of (sorted cs)) _ 0 j (omega (arith, sums_cs.long, long_cs)) ∙ sums_cs.nodes j (omega (arith, long_cs)))) in
       let rest = drop-over (length ds) (sums_of (sorted cs)) (drop (2 * room us) us) (omega (arith, sums_cs.long, long_cs)) (omega (arith, sums_cs.long, long_cs, length-drop (2 * room us) us)) in
       let end : length (sums_of (sorted ds)) ≡ length ds = sums_ds.long ∙ long_ds in
       r.words ∙ rw (row_is, sums, rest, end) refl
@@ -115,7 +96,7 @@ module _ (us cs ds : List ℕ) (few : length cs ≤ room us) (fits_too : length 
 -- the claims in order in a register, one by one
 order_at : (ws cs : List ℕ) (i : ℕ) → length cs ≤ middle ws → i < length cs → slice_index (kept ws cs) (middle ws + i) ≡ slice_index (sorted cs) i
 order_at ws cs i few l =
-    let order = order_read ws cs few in
+    let order = kept_order ws cs few in
     let taken = get_or-take (length cs) (drop (middle ws) (kept ws cs)) i 0 l in
     let dropped = get_or-drop (middle ws) (kept ws cs) i 0 in
     sym dropped ∙ sym taken ∙ ap (λ ks. slice_index ks i) order
@@ -131,7 +112,7 @@ pub adds : Adds
 unfolding Adds
 adds c at us cs new few e =
     let ds = cs ++ c ∷ [] in
-    let half = halves us cs few in
+    let half = halves us in
     let size = ledger_long us cs few in
     let fit = fits us cs few in
     let a = rw (first_two us cs few) at e.added in
@@ -140,7 +121,6 @@ adds c at us cs new few e =
     let front = register_adds c at (register us) cs e.front fit a in
     let within : length ds ≤ middle (register us) = omega (arith, a.room, long, even) in
     let moved = rw front at a.inserted.carried in
-    let low = a.inserted.fits.within in
     renewed us cs ds few (omega arith) (omega arith) (length cs + 1) (at - room (ledger us cs)) (length cs + 1) new (sym long) (rw front at e.resummed)
     (λ i l out. ⊎_elim (λ (b : i < at - room (ledger us cs)). unmoved (register us) cs ds (length cs) c _ at i fit within (omega (arith, a.room, even)) moved (omega arith) l (inl (omega arith, omega arith))) (λ (g : length cs + 1 ≤ i). absurd (omega arith)) out)
     (λ j l out. ⊎_elim (λ (b : j < at - room (ledger us cs)). omega arith) (λ (g : length cs + 1 ≤ first j). absurd (omega (arith, first_below j))) out)
@@ -149,12 +129,10 @@ pub changes : Changes
 unfolding Changes
 changes i c from to us cs new few e =
     let ds = slice_set cs i c in
-    let half = halves us cs few in
+    let half = halves us in
     let size = ledger_long us cs few in
     let fit = fits us cs few in
     let a = rw (first_two us cs few) at e.changed in
-    let even = kept_middle (register us) cs fit in
-    let there = a.there in
     let long = length-set cs i c in
     let front = register_changes i c from to (register us) cs e.front fit a in
     let moved = rw front at a.replaced.carried in
@@ -180,14 +158,11 @@ part-append k n xs ys within = ext_get_or 0 _ _ (grind (arith, places)) (λ i h.
 pub reads : Reads
 unfolding Reads
 reads us cs t few claims sums =
-    let half = halves us cs few in
-    let size = ledger_long us cs few in
-    let two : room (ledger us cs) ≡ room us = ap (λ n. n / 3) size in
-    let order : take (length cs) (drop (room us) (ledger us cs)) ≡ sorted cs =
-    part-append (length cs) (room us) (kept (register us) cs) (row us cs few) (omega (arith, front_long us cs few))
-    ∙ ap (λ n. take (length cs) (drop n (kept (register us) cs))) (sym half)
-    ∙ order_read (register us) cs (fits us cs few) in
-    let row_is = rw two at (third us cs few) in
-    let all : take (length cs) (row us cs few) ≡ sums_of (sorted cs) = take_at (sums_of (sorted cs)) _ (length cs) (sums_long us cs few) in
+    let two : room (ledger us cs) ≡ room us = ap (λ n. n / 3) (ledger_long us cs few) in
+    let order : part (room us) (length cs) (ledger us cs) ≡ sorted cs =
+    part-append (length cs) (room us) (kept (register us) cs) (row us cs) (omega (arith, front_long us cs few))
+    ∙ ap (λ n. part n (length cs) (kept (register us) cs)) (sym (halves us))
+    ∙ kept_order (register us) cs (fits us cs few) in
+    let all : take (length cs) (row us cs) ≡ sums_of (sorted cs) = take_at (sums_of (sorted cs)) _ (length cs) (sums_long us cs few) in
     let is = claims ∙ order in
-    (record { rising = rw is (rising_sorted cs); sums = rw (is, sums, row_is, all) (sums_are (sorted cs)) }, is)
+    (record { rising = rw is (rising_sorted cs); sums = sums ∙ rw (rw two at (third us cs few), all, is) refl }, is)

@@ -3,5 +3,5 @@ pub mod Found
 pub mod Ways
 pub mod Written
 pub mod Rows
-pub mod Ledgers
 pub mod Came
+pub mod Ledgers

@@ -1,12 +1,12 @@
 -- Nodes, and parts of a tree. Assumes nothing.
-use Rattle.std.proofs.Common.{◌≡◌, ℕ, ◌+◌, ◌-◌, ◌*◌, ◌^◌, ◌%◌, ◌<◌, ◌≤◌, List, length, take, drop, sum, refl, sym, ap, ◌∙◌, arith}
+use Rattle.std.proofs.Common.{◌≡◌, ℕ, ◌+◌, ◌-◌, ◌*◌, ◌^◌, ◌%◌, ◌<◌, ◌≤◌, List, length, take, drop, sum, slice_index, refl, sym, ap, ◌∙◌, arith}
 use Rattle.std.proofs.lemmas.List.{places, take-take, ext_get_or}
 use Rattle.std.proofs.lemmas.List.FromFn.{length-map-range_with_len, get_or-map-range_with_len}
 use Rattle.std.proofs.lemmas.Nat.{leading_length, one_shl, pow_pos, and_le_l, and_block}
 use Rattle.std.specs.Int.Bits.{and_zero_r}
 use Rattle.std.specs.Int.Count.{count_leading_zeros}
 use Rattle.level.specs.Words.{held}
-use Rattle.sums.specs.Nodes.{first, node, AreSums, sums_of}
+use Rattle.sums.specs.Nodes.{first, node, sums_of}
 use Rattle.sums.specs.Descending.{IsHeight, IsMiddle}
 
 pub heighted : (n : ℕ) → n < 2 ^ 64 → IsHeight n (64 - count_leading_zeros 64 n)
@@ -61,7 +61,11 @@ pub first_below : (j : ℕ) → first j ≤ j
 unfolding first
 first_below j = and_le_l j (j + 1)
 
--- nodes as a list, and word by word
+-- These words are the nodes over these claims, one by one.
+pub record AreSums (ks ws : List ℕ) : Type 0 where
+  pub long : length ws ≡ length ks
+  pub nodes : (j : ℕ) → j < length ks → slice_index ws j ≡ node ks j
+
 pub sums_are : (ks : List ℕ) → AreSums ks (sums_of ks)
 unfolding sums_of
 sums_are ks = record {
@@ -73,3 +77,6 @@ pub are_sums : (ks ws : List ℕ) → AreSums ks ws → ws ≡ sums_of ks
 are_sums ks ws s =
     let all = sums_are ks in
     ext_get_or 0 ws (sums_of ks) (s.long ∙ sym all.long) (λ j l. let l : j < length ks = omega (arith, s.long) in s.nodes j l ∙ sym (all.nodes j l))
+
+pub by_node : (ks ws : List ℕ) → ws ≡ sums_of ks → AreSums ks ws
+by_node ks ws is = rw is (sums_are ks)

@@ -16,9 +16,9 @@ use Rattle.estate.proofs.Ordered.{rising_head, rising_tail}
 use Rattle.level.specs.Words.{held}
 use Rattle.level.specs.Levels.{Fills}
 use Rattle.level.specs.declared.filling.Fraction.{Fraction}
-use Rattle.sums.specs.Nodes.{node, AreSums}
+use Rattle.sums.specs.Nodes.{node, sums_of}
 use Rattle.sums.specs.Descending.{IsHeight, IsMiddle, Way, way, Goes}
-use Rattle.sums.proofs.Nodes.{height_room, node_middle, node_right}
+use Rattle.sums.proofs.Nodes.{by_node, height_room, node_middle, node_right}
 
 pub goes_end : (h n : ℕ) (ks ws : List ℕ) (f : Fraction) → h < 1 → f ≡ record { numerator = n; denominator = length ks } → Goes h n ks ws f 0
 unfolding Goes way
@@ -148,9 +148,10 @@ fills (suc h) n ks ws d =
     (λ t. cond_both (leb n reach) _ _ (λ (v : Way). v.level ≡ fill n ks) (λ r. left (ltb-false _ _ t) (leb-true _ _ r)) (λ r. right (ltb-false _ _ t) (leb-false _ _ r)))
 
 -- the whole tree
-pub level_found : (h n : ℕ) (ks ws : List ℕ) (f : Fraction) (s : ℕ) → IsHeight (length ks) h → n < 2 ^ 64 → Goes h n ks ws f s → IsNonDecreasing ks → AreSums ks ws → Fills ks n f
+pub level_found : (h n : ℕ) (ks ws : List ℕ) (f : Fraction) (s : ℕ) → IsHeight (length ks) h → n < 2 ^ 64 → Goes h n ks ws f s → IsNonDecreasing ks → ws ≡ sums_of ks → Fills ks n f
 unfolding Goes IsHeight
-level_found h n ks ws f s high word goes rising sums =
+level_found h n ks ws f s high word goes rising same =
+    let sums = by_node ks ws same in
     ap (λ (w : Way). w.level) (sym goes) ∙ fills h n ks ws (record { nodes = λ j i l. sums.nodes j l; rising = rising; word = word; ends = inl high.1 })
 
 pub steps_counted : (h n s : ℕ) → IsHeight n h → s ≤ h → 2 ^ s ≤ 2 * n + 1

@@ -8,10 +8,10 @@ use Rattle.std.proofs.lemmas.List.Sums.{sum_by_more}
 use Rattle.std.proofs.lemmas.Grind.{elements}
 use Rattle.std.proofs.lemmas.Bool.{cases_lt}
 use Rattle.level.specs.Words.{held}
-use Rattle.sums.specs.Nodes.{first, node, AreSums}
+use Rattle.sums.specs.Nodes.{first, node}
 use Rattle.sums.specs.Descending.{total_of, Totals, IsMiddle}
 use Rattle.sums.specs.Renewing.{Outside, Renewal, Renewed}
-use Rattle.sums.proofs.Nodes.{first_middle, drop-take-part, first_right, node_middle, node_left, node_right}
+use Rattle.sums.proofs.Nodes.{AreSums, are_sums, by_node, first_middle, drop-take-part, first_right, node_middle, node_left, node_right}
 use Rattle.sums.proofs.Found.{total_is, total_sums, room_before, room_taken, room_behind}
 
 -- nothing, where no claim before b has changed, or none that is there from a on
@@ -20,13 +20,13 @@ renewal_none a b ks ws paired (inl none) = record {
   long = refl;
   untouched = λ j i out. refl;
   renewed = λ j l i g. absurd (omega arith);
-  sums = λ same is. record { long = same; nodes = λ j l. is j l (inr (omega arith)) };
+  sums = λ same is. are_sums ks ws (record { long = same; nodes = λ j l. is j l (inr (omega arith)) });
 }
 renewal_none a b ks ws paired (inr none) = record {
   long = refl;
   untouched = λ j i out. refl;
   renewed = λ j l i g. absurd (omega arith);
-  sums = λ same is. record { long = same; nodes = λ j l. is j l (inl (omega arith)) };
+  sums = λ same is. are_sums ks ws (record { long = same; nodes = λ j l. is j l (inl (omega arith)) });
 }
 
 -- parts of lists of one length
@@ -138,15 +138,15 @@ module _ (h m a b : ℕ) (middle : m + 1 ≡ 2 ^ h) (ks ws : List ℕ) (few : le
               (λ g t low. here ∙ made g ∙ same_middle left right v size)
               (λ k g t low. let room : k + 1 < 2 ^ h = omega arith in on_right k ∙ r.renewed k (omega arith) (omega arith) (omega (arith, first_right h m middle k room)) ∙ same_right left right v size k room);
           sums = λ same is.
-              let tree = l.sums (front_ws ∙ sym front) (λ j i out. let g : j < m = omega arith in get_or-take m ws j 0 g ∙ is j (omega arith) out ∙ node_left m j ks g) in
-              let rest = r.sums (omega arith) (λ j i out. let room : j + 1 < 2 ^ h = omega arith in get_or-drop (m + 1) ws j 0 ∙ is (m + 1 + j) (omega arith) (outside_right j room out) ∙ node_right h m middle ks j room) in
-              record {
+              let tree = by_node (take m ks) left (l.sums (front_ws ∙ sym front) (λ j i out. let g : j < m = omega arith in get_or-take m ws j 0 g ∙ is j (omega arith) out ∙ node_left m j ks g)) in
+              let rest = by_node (drop (m + 1) ks) right (r.sums (omega arith) (λ j i out. let room : j + 1 < 2 ^ h = omega arith in get_or-drop (m + 1) ws j 0 ∙ is (m + 1 + j) (omega arith) (outside_right j room out) ∙ node_right h m middle ks j room)) in
+              are_sums ks new (record {
                 long = omega (arith, length-append {A = ℕ}, l.long, r.long);
                 nodes = by_place m (λ j. j < length ks → slice_index new j ≡ node ks j)
                     (λ j i g. on_left j i ∙ tree.nodes j (omega arith) ∙ sym (node_left m j ks i))
                     (λ g. here ∙ ⊎_elim (λ (t : m < a). kept t ∙ is m g (inl t)) (λ (t : a ≤ m). made t ∙ summed left tree ∙ sym (node_middle h m middle ks)) (cases_lt m a))
                     (λ k g. on_right k ∙ rest.nodes k (omega arith) ∙ sym (node_right h m middle ks k (omega arith)));
-              };
+              });
         }
 
 pub renewed_none : (h a b : ℕ) (ks ws : List ℕ) → h < 1 → length ks < 2 ^ h → length ws ≡ length ks → Renewed a b ks ws ws

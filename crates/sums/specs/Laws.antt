@@ -1,7 +1,8 @@
 -- What the contracts of a ledger come to, said of claims. The contracts of `add`, `change` and `tree_of` name them. Assumes
 -- nothing.
-use Rattle.std.specs.Prelude.{◌≡◌, ℕ, ◌*◌, ◌≤◌, List, [], ◌∷◌, ◌++◌, length, take, drop, slice_set}
+use Rattle.std.specs.Prelude.{◌≡◌, ℕ, ◌*◌, ◌≤◌, List, [], ◌∷◌, ◌++◌, length, slice_set}
 use Rattle.estate.specs.Order.{sorted}
+use Rattle.register.specs.Row.{part}
 use Rattle.register.specs.Rows.{Unchanged}
 use Rattle.register.specs.declared.rows.Unfit.TheVariants.{OutOfOrder}
 use Rattle.sums.specs.Ledger.{room, register, ledger, Entered, Amended}
@@ -26,4 +27,4 @@ NeverOutOfOrder =
 -- What is read of a ledger is a tree over its claims in order.
 unfoldable pub Reads : Type 0
 Reads =
-    (ws cs : List ℕ) (t : Tree) → length cs ≤ room ws → t.claims.now ≡ take (length cs) (drop (room ws) (ledger ws cs)) → t.sums.now ≡ take (length cs) (drop (2 * room ws) (ledger ws cs)) → IsTree t × (t.claims.now ≡ sorted cs)
+    (ws cs : List ℕ) (t : Tree) → length cs ≤ room ws → t.claims.now ≡ part (room ws) (length cs) (ledger ws cs) → t.sums.now ≡ part (2 * room ws) (length cs) (ledger ws cs) → IsTree t × (t.claims.now ≡ sorted cs)

@@ -2,6 +2,7 @@
 -- in order, and for the sums over these. The first two are a register. Assumes nothing.
 use Rattle.std.specs.Prelude.{◌≡◌, ℕ, ◌+◌, ◌-◌, ◌*◌, ◌/◌, ◌≤◌, min, max, List, ◌++◌, length, take, drop, Some, None, Ok, Err, Option, Result}
 use Rattle.estate.specs.Order.{sorted}
+use Rattle.register.specs.Row.{part}
 use Rattle.register.specs.Rows.{kept, over, Addition, Change, Unchanged}
 use Rattle.register.specs.declared.row.Moved.{Moved}
 use Rattle.register.specs.declared.rows.Unfit.{Unfit}
@@ -23,7 +24,7 @@ ledger ws cs = kept (register ws) cs ++ over (sums_of (sorted cs)) (drop (2 * ro
 -- these are renewed. Every other word is as it was.
 pub record Resummed (n a b : ℕ) (ws front new : List ℕ) : Type 0 where
   pub sums : List ℕ
-  pub renewed : Renewal a b (take n (drop (room ws) front)) (take n (drop (2 * room ws) ws)) sums
+  pub renewed : Renewal a b (part (room ws) n front) (part (2 * room ws) n ws) sums
   pub words : new ≡ front ++ (sums ++ drop n (drop (2 * room ws) ws))
 
 -- One more claim: in the register, and in the sums over the claims from its place in order on.

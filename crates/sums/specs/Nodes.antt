@@ -1,6 +1,6 @@
 -- A tree of sums over claims in ascending order. A node stands at the place of each claim, and has the sum of this claim and of
 -- some of those before it. Assumes nothing.
-use Rattle.std.specs.Prelude.{◌≡◌, ℕ, ◌+◌, ◌<◌, List, length, map, take, drop, sum, slice_index, bit_and}
+use Rattle.std.specs.Prelude.{ℕ, ◌+◌, List, length, map, take, drop, sum, bit_and}
 use Rattle.std.specs.List.{range_with_len}
 use Rattle.level.specs.Words.{held}
 
@@ -13,11 +13,6 @@ first j = bit_and j (j + 1)
 abbrev pub node : List ℕ → ℕ → ℕ
 node ks j = held (sum (drop (first j) (take (j + 1) ks)))
 
--- These words are the nodes over these claims.
-pub record AreSums (ks ws : List ℕ) : Type 0 where
-  pub long : length ws ≡ length ks
-  pub nodes : (j : ℕ) → j < length ks → slice_index ws j ≡ node ks j
-
--- all of them
+-- the nodes over these claims, one for each
 unfoldable pub sums_of : List ℕ → List ℕ
 sums_of ks = map (node ks) (range_with_len 0 (length ks))

@@ -2,7 +2,7 @@
 use Rattle.std.specs.Prelude.{◌≡◌, ℕ, ◌<◌, ◌≤◌, ◌⊎◌, ◌+◌, List, length, take, drop, slice_index}
 use Rattle.level.specs.Words.{held}
 use Rattle.sums.specs.Descending.{total_of}
-use Rattle.sums.specs.Nodes.{first, node, AreSums}
+use Rattle.sums.specs.Nodes.{first, node, sums_of}
 
 -- the node at place j sums over none of the claims from place a on and before b
 abbrev pub Outside : ℕ → ℕ → ℕ → Type 0
@@ -15,7 +15,7 @@ pub record Renewal (a b : ℕ) (ks ws new : List ℕ) : Type 0 where
   pub long : length new ≡ length ws
   pub untouched : (j : ℕ) → j < length ws → Outside a b j → slice_index new j ≡ slice_index ws j
   pub renewed : (j : ℕ) → a ≤ j → j < length ws → first j < b → slice_index new j ≡ held (total_of (drop (first j) (take j new)) + slice_index ks j)
-  pub sums : length ws ≡ length ks → ((j : ℕ) → j < length ks → Outside a b j → slice_index ws j ≡ node ks j) → AreSums ks new
+  pub sums : length ws ≡ length ks → ((j : ℕ) → j < length ks → Outside a b j → slice_index ws j ≡ node ks j) → new ≡ sums_of ks
 
 unfoldable pub Renewed : ℕ → ℕ → List ℕ → List ℕ → List ℕ → Type 0
 Renewed a b ks ws new = Renewal a b ks ws new

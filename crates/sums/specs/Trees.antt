@@ -4,7 +4,7 @@ use Rattle.std.specs.List.Sorted.{IsNonDecreasing}
 use Rattle.estate.specs.Level.{scarce_of_sum, target_of_sum}
 use Rattle.level.specs.Sides.{gains}
 use Rattle.level.specs.declared.closed.Terms.{Terms}
-use Rattle.sums.specs.Nodes.{AreSums}
+use Rattle.sums.specs.Nodes.{sums_of}
 use Rattle.sums.specs.Descending.{IsHeight, Goes}
 use Rattle.sums.specs.declared.descending.Descent.{Descent}
 use Rattle.sums.specs.declared.tree.Tree.{Tree}
@@ -12,7 +12,7 @@ use Rattle.sums.specs.declared.tree.Tree.{Tree}
 -- It is a tree: the claims ascend, and the sums are those over them.
 pub record IsTree (t : Tree) : Type 0 where
   pub rising : IsNonDecreasing t.claims.now
-  pub sums : AreSums t.claims.now t.sums.now
+  pub sums : t.sums.now ≡ sums_of t.claims.now
 
 -- What is found going down words ws beside claims ks, whatever they are: the way down a tree of that height.
 pub record Descended (ks ws : List ℕ) (n : ℕ) (d : Descent) : Type 0 where

@@ -1,6 +1,7 @@
 // A ledger: a register of claims, and behind it the sums over those in order, kept as claims are added and changed. It is
 // three rows of words of a fixed size that are lent, beside other things, so it is no vector.
 ghost use Rattle.std.specs.Prelude.{◌≡◌, ◌<◌, ◌≤◌, ◌+◌, ◌*◌, IfSome, IfNone, length, take, drop};
+ghost use Rattle.register.specs.Row.{part};
 ghost use Rattle.register.specs.Rows.{Added, Changed};
 ghost use Rattle.sums.specs.Ledger.{room, Enters, Amends};
 ghost use Rattle.sums.specs.Laws.{Adds, Changes, NeverOutOfOrder, Reads};
@@ -64,8 +65,8 @@ fn amend(rows: &mut [u64], count: usize, i: usize, claim: u64) -> Result<Moved, 
 pub fn tree_of(rows: &[u64], count: usize) -> Option<Tree<'_>>
     ensures none { IfNone result (room rows.now < count) }
     ensures some { IfSome result (λ _. count ≤ room rows.now) }
-    ensures claims { IfSome result (λ t. t.claims.now ≡ take count (drop (room rows.now) rows.now)) }
-    ensures sums { IfSome result (λ t. t.sums.now ≡ take count (drop (2 * room rows.now) rows.now)) }
+    ensures claims { IfSome result (λ t. t.claims.now ≡ part (room rows.now) count rows.now) }
+    ensures sums { IfSome result (λ t. t.sums.now ≡ part (2 * room rows.now) count rows.now) }
     ensures reads { Reads }
 {
     let room = rows.len() / 3;

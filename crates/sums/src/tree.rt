@@ -6,7 +6,7 @@ ghost use Rattle.level.specs.Sides.{divided_of};
 ghost use Rattle.level.specs.Terms.{Agreed, Found};
 ghost use Rattle.level.specs.Words.{held};
 ghost use Rattle.sums.specs.Descending.{total_of};
-ghost use Rattle.sums.specs.Nodes.{AreSums};
+ghost use Rattle.sums.specs.Nodes.{sums_of};
 
 use crate::descending::{Descent, descend, height, total};
 use level::{Estate, Terms};
@@ -38,7 +38,7 @@ impl<'a> Tree<'a> {
     #[tactic(auto, using(crate::proofs::Found::in_all))]
     pub fn total(&self) -> u64
         ensures all { result ≡ total_of self.now.sums.now }
-        ensures sum { AreSums self.now.claims.now self.now.sums.now → result ≡ held (sum self.now.claims.now) }
+        ensures sum { self.now.sums.now ≡ sums_of self.now.claims.now → result ≡ held (sum self.now.claims.now) }
     {
         total(height(self.sums.len()), self.sums)
     }
