@@ -74,7 +74,7 @@ module _ (m : List ℕ) (limit count k : ℕ) (is_limit : limit ≡ slice_index 
   part_long =
       length-take-le k (drop header_words m) (omega (arith, length-drop header_words m, headed.words, is_limit))
 
-  part_room : room part0 ≡ limit
+  pub part_room : room part0 ≡ limit
   part_room = let l = part_long in omega arith
 
   count_is : length (estate_of m).claimed ≡ count
