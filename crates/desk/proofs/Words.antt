@@ -9,10 +9,10 @@ use Rattle.estate.specs.Estates.{Estate, new_estate, with_there, with_claimed}
 use Rattle.register.specs.Rows.{Unchanged}
 use Rattle.register.specs.declared.rows.Unfit.TheVariants.{OutOfOrder}
 use Rattle.sums.specs.Ledger.{room, register, Entered, Amended}
-use Rattle.sums.specs.Laws.{Adds, Changes, NeverOutOfOrder, Reads}
+use Rattle.sums.specs.Laws.{Starts, Adds, Changes, NeverOutOfOrder, Reads}
 use Rattle.sums.specs.Trees.{IsTree}
 use Rattle.sums.specs.declared.tree.Tree.{Tree}
-use Rattle.sums.proofs.Ledgers.{ledger_long, ledger_none, adds, changes, ordered, reads}
+use Rattle.sums.proofs.Ledgers.{ledger_long, starts, adds, changes, ordered, reads}
 use Rattle.desk.specs.Memory.{header_words, spare, header, rows, limits_for, layout, words_asked, limits_of, estate_of, rest_of, Headed}
 
 zeros : (n : ℕ) → replicate (words_asked n) 0 ≡ 0 ∷ 0 ∷ 0 ∷ (spare ++ replicate (3 * n) 0)
@@ -20,10 +20,10 @@ unfolding spare
 zeros n = sym (replicate-append-replicate {A = ℕ} 64 (3 * n) 0)
 
 pub opened : (n w : ℕ) (ws m : List ℕ) → w ≡ words_asked n → w ≤ length m → ws ≡ replicate (length (take w m)) 0 → slice_set (ws ++ drop w m) 0 n ≡ layout (limits_for n) new_estate ++ drop (words_asked n) m
-unfolding layout header rows
+unfolding layout header rows Starts
 opened n w ws m e room z =
     let k : length (take w m) ≡ w = grind (arith, places) in
-    rw (z, k, e, zeros n, ledger_none (replicate (3 * n) 0)) refl
+    rw (z, k, e, zeros n, starts (replicate (3 * n) 0)) refl
 
 -- three lists, the first two of known lengths
 module _ (xs ys zs : List ℕ) (a k : ℕ) (one : length xs ≡ a) (two : length ys ≡ k) where

@@ -4,7 +4,7 @@ use Rattle.std.proofs.Math.Logic.{⊎_elim}
 use Rattle.std.proofs.Math.Pow.{pow_mono}
 use Rattle.std.proofs.lemmas.Bool.{ltb-true, ltb-false, cond_both, cases_lt}
 use Rattle.std.proofs.lemmas.Bool.Decides.{nat_tests}
-use Rattle.std.proofs.lemmas.List.{length-take, take_all}
+use Rattle.std.proofs.lemmas.List.{length-take, take_rest}
 use Rattle.std.proofs.lemmas.List.Sums.{sum_by-take-drop}
 use Rattle.std.proofs.lemmas.Nat.{pow_pos}
 use Rattle.level.specs.Words.{held}
@@ -39,7 +39,7 @@ module _ (g h m : ℕ) (ws : List ℕ) (less : g ≡ suc h) (is_middle : IsMiddl
   unfolding Totals total_in IsMiddle
   total_parts r all some is sums =
       let last : 2 ^ h - 1 ≡ m = omega arith in
-      let rest = rw (take_all (length ws - (m + 1)) (drop (m + 1) ws) (omega (arith, length-drop (m + 1) ws))) at is in
+      let rest = rw (take_rest ws (m + 1)) at is in
       rw (less, last, sym is_middle) (grind (arith, nat_tests))
 
 pub ruleset total_goes = (total_end, total_lower, total_parts)

@@ -12,7 +12,7 @@ use Rattle.level.specs.Words.{held}
 use Rattle.sums.specs.Nodes.{first, node, sums_of}
 use Rattle.sums.specs.Renewing.{Outside, Renewal}
 use Rattle.sums.specs.Ledger.{room, register, ledger, Resummed}
-use Rattle.sums.specs.Laws.{Adds, Changes, NeverOutOfOrder, Reads}
+use Rattle.sums.specs.Laws.{Starts, Adds, Changes, NeverOutOfOrder, Reads}
 use Rattle.sums.proofs.Nodes.{first_below, sums_are}
 use Rattle.sums.proofs.Came.{two_long, halves}
 
@@ -59,10 +59,9 @@ module _ (us cs : List ℕ) (few : length cs ≤ room us) where
   fits : length cs ≤ middle (register us)
   fits = omega (arith, halves us)
 
--- a ledger of no claims
-pub ledger_none : (us : List ℕ) → ledger us [] ≡ us
-unfolding sorted sums_of
-ledger_none us =
+pub starts : Starts
+unfolding Starts sorted sums_of
+starts us =
     rw (take-append-drop (middle (register us)) (register us)) (take-append-drop (2 * room us) us)
 
 -- behind what lies over a row the row is as it was
@@ -148,6 +147,8 @@ pub ordered : NeverOutOfOrder
 unfolding NeverOutOfOrder
 ordered i us cs few u =
     register_ordered i (register us) cs (fits us cs few) (rw (first_two us cs few) at u)
+
+pub ruleset added = (starts, adds)
 
 pub ruleset changed = (changes, ordered)
 

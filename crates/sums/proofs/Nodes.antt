@@ -9,9 +9,9 @@ use Rattle.level.specs.Words.{held}
 use Rattle.sums.specs.Nodes.{first, node, sums_of}
 use Rattle.sums.specs.Descending.{IsHeight, IsMiddle}
 
-pub heighted : (n : ℕ) → n < 2 ^ 64 → IsHeight n (64 - count_leading_zeros 64 n)
+pub height_is : (n : ℕ) → n < 2 ^ 64 → IsHeight n (64 - count_leading_zeros 64 n)
 unfolding IsHeight
-heighted n h =
+height_is n h =
     let (m, same, room, least) = leading_length 64 n h in
     let is : 64 - count_leading_zeros 64 n ≡ m = omega arith in
     rw is (omega arith, room, least)
@@ -20,9 +20,9 @@ pub height_room : (n h : ℕ) → IsHeight n h → (h ≤ 64) × (n < 2 ^ h)
 unfolding IsHeight
 height_room n h is = (is.0, is.1)
 
-pub middled : (h : ℕ) → h < 64 → IsMiddle h ((1 * 2 ^ h) % 2 ^ 64 - 1)
+pub middle_is : (h : ℕ) → h < 64 → IsMiddle h ((1 * 2 ^ h) % 2 ^ 64 - 1)
 unfolding IsMiddle
-middled h low = omega (arith, one_shl h 64 low, pow_pos h)
+middle_is h low = omega (arith, one_shl h 64 low, pow_pos h)
 
 -- some claims among those before and behind a place
 pub drop-take-part : (a b c n : ℕ) (ks : List ℕ) → c ≡ n + b → drop (n + a) (take c ks) ≡ drop a (take b (drop n ks))

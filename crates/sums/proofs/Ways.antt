@@ -2,7 +2,7 @@
 use Rattle.std.proofs.Common.{◌≡◌, ℕ, suc, zero, ◌+◌, ◌-◌, ◌*◌, ◌^◌, ◌<◌, ◌≤◌, leb, ltb, ◌⊎◌, List, [], ◌∷◌, length, take, drop, sum, slice_index, length-drop, get_or-drop, All, mul-le-mul_left, refl, sym, ap, ◌∙◌, arith}
 use mathlib.Core.Logic.{inl, inr}
 use Rattle.std.specs.List.Sorted.{IsNonDecreasing}
-use Rattle.std.proofs.lemmas.List.{places, take-take, take_all, drop-take}
+use Rattle.std.proofs.lemmas.List.{places, take-take, take_rest, drop-take}
 use Rattle.std.proofs.lemmas.List.Elements.{All-tail}
 use Rattle.std.proofs.lemmas.List.Sorted.{IsNonDecreasingBy-drop}
 use Rattle.std.proofs.lemmas.List.Sums.{sum_by-take-drop}
@@ -40,8 +40,8 @@ module _ (g h m n : ℕ) (ks ws : List ℕ) (f : Fraction) (s : ℕ) (less : g �
   unfolding Goes way IsMiddle
   goes_behind some past is =
       let last : 2 ^ h - 1 ≡ m = omega arith in
-      let rest_ks = take_all (length ks - (m + 1)) (drop (m + 1) ks) (omega (arith, length-drop (m + 1) ks)) in
-      let rest_ws = take_all (length ws - (m + 1)) (drop (m + 1) ws) (omega (arith, length-drop (m + 1) ws)) in
+      let rest_ks = take_rest ks (m + 1) in
+      let rest_ws = take_rest ws (m + 1) in
       let on = rw (rest_ks, rest_ws) at is in
       rw (less, last, sym is_middle) (grind (arith, nat_tests))
 

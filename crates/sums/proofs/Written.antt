@@ -3,7 +3,7 @@ use Rattle.std.proofs.Common.{◌≡◌, ℕ, suc, ◌+◌, ◌-◌, ◌^◌, �
 use mathlib.Core.Logic.{◌⊎◌, inl, inr}
 use Rattle.std.proofs.Math.Logic.{⊎_elim}
 use borrow.Rule.Slice.PartMut.{put_mid}
-use Rattle.std.proofs.lemmas.List.{places, length-take, take-append-le, take_at, take_all, take_more, drop_all, append-nil, length-set, length-take-le, get_or-take}
+use Rattle.std.proofs.lemmas.List.{places, length-take, take-append-le, take_at, take_rest, take_all, take_more, drop_all, append-nil, length-set, length-take-le, get_or-take}
 use Rattle.std.proofs.lemmas.List.Sums.{sum_by_more}
 use Rattle.std.proofs.lemmas.Grind.{elements}
 use Rattle.std.proofs.lemmas.Bool.{cases_lt}
@@ -159,8 +159,8 @@ module _ (g h m a b : ℕ) (ks ws : List ℕ) (less : g ≡ suc h) (is_middle : 
   pub renewed_behind : (part : List ℕ) → m < a → Renewed (a - (m + 1)) (b - (m + 1)) (take (length ks - (m + 1)) (drop (m + 1) ks)) (take (length ws - (m + 1)) (drop (m + 1) ws)) part → Renewed a b ks ws (put_mid (m + 1) (length ws - (m + 1)) ws part)
   unfolding Renewed IsMiddle
   renewed_behind part past r =
-      let ks_is = take_all (length ks - (m + 1)) (drop (m + 1) ks) (omega (arith, length-drop (m + 1) ks)) in
-      let ws_is = take_all (length ws - (m + 1)) (drop (m + 1) ws) (omega (arith, length-drop (m + 1) ws)) in
+      let ks_is = take_rest ks (m + 1) in
+      let ws_is = take_rest ws (m + 1) in
       let left = renewal_none a b (take m ks) (take m ws) (paired_taken m ks ws paired) (inr (omega (arith, length-take-le m ks (omega arith)))) in
       let all : put_mid (m + 1) (length ws - (m + 1)) ws part ≡ take m ws ++ (slice_index ws m ∷ part) = put-end (m + 1) ws part (omega arith) ∙ rw (take_more ws m 0 (omega arith)) (append_assoc (take m ws) (slice_index ws m ∷ []) part) in
       rw all (joined h m a b is_middle ks ws (rw less at few) paired some span (take m ws) part (slice_index ws m) left (rw (ks_is, ws_is) at r) (λ past. refl) (λ first. absurd (omega arith)))
@@ -189,7 +189,7 @@ module _ (g h m a b : ℕ) (ks ws : List ℕ) (less : g ≡ suc h) (is_middle : 
         let behind = drop_right m v left (drop (m + 1) ws) size in
         let right = rw (here, behind) at r in
         let whole = take_all (length (left ++ (v ∷ drop (m + 1) ws)) - (m + 1)) (drop (m + 1) ws) (omega (arith, length-append {A = ℕ}, size)) in
-        let ks_is = take_all (length ks - (m + 1)) (drop (m + 1) ks) (omega (arith, length-drop (m + 1) ks)) in
+        let ks_is = take_rest ks (m + 1) in
         let start : a - (m + 1) ≡ 0 = omega arith in
         rw (here, put_right m v left (drop (m + 1) ws) size part) (joined_at part (rw start (rw (whole, ks_is) at right)))
 

@@ -9,6 +9,10 @@ use Rattle.sums.specs.Ledger.{room, register, ledger, Entered, Amended}
 use Rattle.sums.specs.Trees.{IsTree}
 use Rattle.sums.specs.declared.tree.Tree.{Tree}
 
+-- A ledger of no claims is any memory.
+unfoldable pub Starts : Type 0
+Starts = (ws : List ℕ) → ledger ws [] ≡ ws
+
 -- With one more claim a ledger is that of the claims with it last.
 unfoldable pub Adds : Type 0
 Adds =

@@ -17,5 +17,6 @@ pub record Renewal (a b : ℕ) (ks ws new : List ℕ) : Type 0 where
   pub renewed : (j : ℕ) → a ≤ j → j < length ws → first j < b → slice_index new j ≡ held (total_of (drop (first j) (take j new)) + slice_index ks j)
   pub sums : length ws ≡ length ks → ((j : ℕ) → j < length ks → Outside a b j → slice_index ws j ≡ node ks j) → new ≡ sums_of ks
 
+-- the same as a name that is not looked into
 unfoldable pub Renewed : ℕ → ℕ → List ℕ → List ℕ → List ℕ → Type 0
 Renewed a b ks ws new = Renewal a b ks ws new

@@ -1,4 +1,4 @@
--- A tree over claims, and what is found by it. Assumes nothing.
+-- When claims and the words beside them are a tree, and what is found going down such words, whatever they are. Assumes nothing.
 use Rattle.std.specs.Prelude.{◌≡◌, ℕ, ◌≤◌, List, length}
 use Rattle.std.specs.List.Sorted.{IsNonDecreasing}
 use Rattle.estate.specs.Level.{scarce_of_sum, target_of_sum}

@@ -6,7 +6,7 @@ ghost use Rattle.sums.specs.Descending.{Goes, IsHeight, IsMiddle, Totals};
 use level::Fraction;
 
 // How high a tree over so many claims is: as high as their number has binary digits.
-#[tactic(auto, using(crate::proofs::Nodes::heighted))]
+#[tactic(auto, using(crate::proofs::Nodes::height_is))]
 pub(crate) fn height(claims: usize) -> u32
     ensures { IsHeight claims result }
 {
@@ -14,7 +14,7 @@ pub(crate) fn height(claims: usize) -> u32
 }
 
 // The place of the middle of a tree one higher than this.
-#[tactic(auto, using(crate::proofs::Nodes::middled))]
+#[tactic(auto, using(crate::proofs::Nodes::middle_is))]
 pub(crate) fn middle(height: u32) -> usize
     requires { height < 64 }
     ensures { IsMiddle height result }

@@ -4,7 +4,7 @@ ghost use Rattle.std.specs.Prelude.{◌≡◌, ◌<◌, ◌≤◌, ◌+◌, ◌*
 ghost use Rattle.register.specs.Row.{part};
 ghost use Rattle.register.specs.Rows.{Added, Changed};
 ghost use Rattle.sums.specs.Ledger.{room, Enters, Amends};
-ghost use Rattle.sums.specs.Laws.{Adds, Changes, NeverOutOfOrder, Reads};
+ghost use Rattle.sums.specs.Laws.{Starts, Adds, Changes, NeverOutOfOrder, Reads};
 
 use crate::renewing::renew;
 use crate::tree::Tree;
@@ -12,9 +12,10 @@ use register::{Moved, Register, Unfit};
 
 // Adds a claim last, and answers where it is among those in order, counted from the first word. Where there is no room,
 // nothing is done.
-#[tactic(auto, using(crate::proofs::Rows::enters, crate::proofs::Ledgers::adds))]
+#[tactic(auto, using(crate::proofs::Rows::enters, crate::proofs::Ledgers::added))]
 pub fn add(rows: &mut [u64], count: usize, claim: u64) -> Option<usize>
     ensures enters { Enters count claim rows.old rows.new result }
+    ensures starts { Starts }
     ensures adds { Adds }
 {
     let room = rows.len() / 3;
