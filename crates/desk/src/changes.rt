@@ -1,5 +1,5 @@
 // The calls that change a desk.
-ghost use Rattle.std.specs.Prelude.{◌≡◌, ◌≤◌, IfSome, IfNone};
+ghost use Rattle.std.specs.Prelude.{◌≤◌, IfSome, IfNone};
 ghost use Rattle.estate.specs.Calls.{claims, proves, comes};
 ghost use Rattle.estate.specs.Limits.{most_cents};
 ghost use Rattle.desk.specs.Steps.{Reads, Grown, Full, Altered, Unaltered, Does};

@@ -3,3 +3,4 @@ pub mod InOrder
 pub mod AsLists
 pub mod Keeping
 pub mod Entering
+pub mod Came

@@ -2,7 +2,7 @@
 use Rattle.std.proofs.Common.{◌≡◌, ℕ, ◌+◌, ◌-◌, ◌*◌, ◌/◌, ◌<◌, ◌≤◌, List, [], ◌∷◌, ◌++◌, length, take, drop, set, slice_index, slice_set, min, max, length-append, length-drop, get_or-drop, sum, refl, sym, ap, ◌∙◌, arith}
 use mathlib.Core.Logic.{◌⊎◌, inl, inr}
 use Rattle.std.proofs.Math.Logic.{⊎_elim}
-use Rattle.std.proofs.lemmas.List.{places, take-append-drop, take_at, drop_at, ext_get_or, length-take-le, get_or-take, get_or-set_other, get_or_append_left, length-set, length_push}
+use Rattle.std.proofs.lemmas.List.{places, take-append-drop, take_at, ext_get_or, length-take-le, get_or-take, get_or-set_other, get_or_append_left, length-set, length_push}
 use Rattle.estate.specs.Order.{sorted}
 use Rattle.estate.proofs.Ordered.{length-sorted, rising_sorted}
 use Rattle.register.specs.Row.{part, Carried}
@@ -15,6 +15,7 @@ use Rattle.sums.specs.Ledger.{room, register, ledger, Resummed}
 use Rattle.sums.specs.Laws.{Starts, Adds, Changes, NeverOutOfOrder, Reads}
 use Rattle.sums.proofs.Nodes.{first_below, sums_are}
 use Rattle.sums.proofs.Came.{two_long, halves}
+use Rattle.sums.proofs.Rows.{first_two, third}
 
 -- a node that sums over none of the claims that have changed is as it was
 same_node : (a b j : ℕ) (ks ls : List ℕ) → ((i : ℕ) → i ≤ j → (i < a) ⊎ (b ≤ i) → slice_index ls i ≡ slice_index ks i) → j < length ks → j < length ls → Outside a b j → node ls j ≡ node ks j
@@ -49,11 +50,14 @@ module _ (us cs : List ℕ) (few : length cs ≤ room us) where
   pub ledger_long : length (ledger us cs) ≡ length us
   ledger_long = omega (arith, length-append {A = ℕ}, front_long, row_long)
 
-  first_two : register (ledger us cs) ≡ kept (register us) cs
-  first_two = rw ledger_long (take_at (kept (register us) cs) (row us cs) (2 * room us) front_long)
+  two : length (kept (register us) cs) ≡ 2 * room (ledger us cs)
+  two = omega (arith, front_long, ledger_long)
 
-  third : drop (2 * room (ledger us cs)) (ledger us cs) ≡ row us cs
-  third = rw ledger_long (drop_at (kept (register us) cs) (row us cs) (2 * room us) front_long)
+  two_rows : register (ledger us cs) ≡ kept (register us) cs
+  two_rows = first_two (ledger us cs) (kept (register us) cs) (row us cs) refl two
+
+  last_row : drop (2 * room (ledger us cs)) (ledger us cs) ≡ row us cs
+  last_row = third (ledger us cs) (kept (register us) cs) (row us cs) refl two
 
   -- a register is within the memory's first two rows
   fits : length cs ≤ middle (register us)
@@ -78,7 +82,7 @@ module _ (us cs ds : List ℕ) (few : length cs ≤ room us) (fits_too : length 
       let long_cs = length-sorted cs in
       let sums_ds = sums_are (sorted ds) in
       let sums_cs = sums_are (sorted cs) in
-      let row_is = third us cs few in
+      let row_is = last_row us cs few in
       let long = ledger_long us cs few in
       let wide = row_long us cs few in
       let order : take (length ds) (drop (room (ledger us cs)) (kept (register us) ds)) ≡ sorted ds =
@@ -114,7 +118,7 @@ adds c at us cs new few e =
     let half = halves us in
     let size = ledger_long us cs few in
     let fit = fits us cs few in
-    let a = rw (first_two us cs few) at e.added in
+    let a = rw (two_rows us cs few) at e.added in
     let even = kept_middle (register us) cs fit in
     let long = length_push cs c in
     let front = register_adds c at (register us) cs e.front fit a in
@@ -131,7 +135,7 @@ changes i c from to us cs new few e =
     let half = halves us in
     let size = ledger_long us cs few in
     let fit = fits us cs few in
-    let a = rw (first_two us cs few) at e.changed in
+    let a = rw (two_rows us cs few) at e.changed in
     let long = length-set cs i c in
     let front = register_changes i c from to (register us) cs e.front fit a in
     let moved = rw front at a.replaced.carried in
@@ -146,7 +150,7 @@ changes i c from to us cs new few e =
 pub ordered : NeverOutOfOrder
 unfolding NeverOutOfOrder
 ordered i us cs few u =
-    register_ordered i (register us) cs (fits us cs few) (rw (first_two us cs few) at u)
+    register_ordered i (register us) cs (fits us cs few) (rw (two_rows us cs few) at u)
 
 pub ruleset added = (starts, adds)
 
@@ -166,4 +170,4 @@ reads us cs t few claims sums =
     ∙ kept_order (register us) cs (fits us cs few) in
     let all : take (length cs) (row us cs) ≡ sums_of (sorted cs) = take_at (sums_of (sorted cs)) _ (length cs) (sums_long us cs few) in
     let is = claims ∙ order in
-    (record { rising = rw is (rising_sorted cs); sums = sums ∙ rw (rw two at (third us cs few), all, is) refl }, is)
+    (record { rising = rw is (rising_sorted cs); sums = sums ∙ rw (rw two at (last_row us cs few), all, is) refl }, is)

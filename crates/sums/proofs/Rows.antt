@@ -10,10 +10,10 @@ use Rattle.sums.specs.Ledger.{room, register, Resummed, Enters, Amends}
 
 -- rows of words of the same length, of which the first two are the register
 module _ (ws two row : List ℕ) (rows : ws ≡ two ++ row) (long : length two ≡ 2 * room ws) where
-  first_two : register ws ≡ two
+  pub first_two : register ws ≡ two
   first_two = ap (take (2 * room ws)) rows ∙ take_at two row (2 * room ws) long
 
-  third : drop (2 * room ws) ws ≡ row
+  pub third : drop (2 * room ws) ws ≡ row
   third = ap (drop (2 * room ws)) rows ∙ drop_at two row (2 * room ws) long
 
   -- the part of the register in order, as the code cuts it out

@@ -13,8 +13,8 @@ IsHeight n h = (h ≤ 64) × (n < 2 ^ h) × (2 ^ h ≤ 2 * n + 1)
 unfoldable pub IsMiddle : ℕ → ℕ → Type 0
 IsMiddle h m = m + 1 ≡ 2 ^ h
 
--- What all claims come to, told by the words beside them in a tree of height h: the sum in the middle, and what those behind it
--- tell.
+-- What all claims come to, told by the words beside them in a tree of height h: the sum in the middle, and what those behind
+-- it tell.
 unfoldable pub total_in : ℕ → List ℕ → ℕ
 total_in zero ws = 0
 total_in (suc h) ws =
@@ -36,9 +36,9 @@ pub record Way : Type 0 where
 abbrev pub further : Way → Way
 further w = record { level = w.level; steps = w.steps + 1 }
 
--- The way down a tree of height h with n to be filled in. In the middle stand the sum over all claims up to there, and the last
--- of these claims. Where n is no more than that sum, and as much for each claim behind as that claim, the way goes on before the
--- middle; otherwise all claims up to there are filled, and it goes on behind it. It ends where no claim is left to be filled.
+-- The way down a tree of height h with n to be filled in. In the middle stand the sum over all claims up to there, and the
+-- last of these claims. Where n is no more than that sum, and as much for each claim behind as that claim, the way goes on
+-- before the middle; otherwise all claims up to there are filled, and it goes on behind it. It ends at height 0.
 unfoldable pub way : ℕ → ℕ → List ℕ → List ℕ → Way
 way zero n ks ws = record { level = record { spread = n; sharers = length ks }; steps = 0 }
 way (suc h) n ks ws =

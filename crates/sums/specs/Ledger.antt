@@ -1,5 +1,5 @@
--- A ledger of claims: three rows of words of the same length, side by side in lent memory, for claims as they came, for the same
--- in order, and for the sums over these. The first two are a register. Assumes nothing.
+-- A ledger of claims: three rows of words of the same length, side by side in lent memory, for claims as they came, for the
+-- same in order, and for the sums over these. The first two are a register. Assumes nothing.
 use Rattle.std.specs.Prelude.{◌≡◌, ℕ, ◌+◌, ◌-◌, ◌*◌, ◌/◌, ◌≤◌, min, max, List, ◌++◌, length, take, drop, Some, None, Ok, Err, Option, Result}
 use Rattle.estate.specs.Order.{sorted}
 use Rattle.register.specs.Row.{part}

@@ -1,11 +1,13 @@
--- When claims and the words beside them are a tree, and what is found going down such words, whatever they are. Assumes nothing.
-use Rattle.std.specs.Prelude.{◌≡◌, ℕ, ◌≤◌, List, length}
+-- When claims and the words beside them are a tree; and what is found going down such words, whatever they are. Assumes
+-- nothing.
+use Rattle.std.specs.Prelude.{◌≡◌, ℕ, ◌<◌, ◌≤◌, min, List, length, Some, None, Option}
+use Rattle.estate.specs.Limits.{most_there}
 use Rattle.std.specs.List.Sorted.{IsNonDecreasing}
 use Rattle.estate.specs.Level.{scarce_of_sum, target_of_sum}
 use Rattle.level.specs.Sides.{gains}
 use Rattle.level.specs.declared.closed.Terms.{Terms}
 use Rattle.sums.specs.Nodes.{sums_of}
-use Rattle.sums.specs.Descending.{IsHeight, Goes}
+use Rattle.sums.specs.Descending.{total_of, IsHeight, Goes}
 use Rattle.sums.specs.declared.descending.Descent.{Descent}
 use Rattle.sums.specs.declared.tree.Tree.{Tree}
 
@@ -27,3 +29,9 @@ pub record Leads (e s : ℕ) (t : Tree) (r : Terms) : Type 0 where
   pub way : Descent
   pub level : r.level ≡ way.level
   pub down : Descended t.claims.now t.sums.now (target_of_sum e s) way
+
+-- what is found, of what is there; no more is divided than these words tell that is claimed
+abbrev pub LeadsTo : ℕ → Tree → Option Terms → Type 0
+LeadsTo there t None = most_there < there
+LeadsTo there t (Some r) =
+    (there ≤ most_there) × Leads (min there (total_of t.sums.now)) (total_of t.sums.now) t r

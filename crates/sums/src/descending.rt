@@ -1,6 +1,6 @@
-// The ways down a tree of sums. A way begins at the node in the middle; what lies before it, and what lies behind it, are trees
-// of their own, one less high. A tree of height 0 has no node.
-ghost use Rattle.std.specs.Prelude.{◌≡◌, ◌≤◌, ◌<◌, ◌+◌, ◌^◌, length};
+// The ways down a tree of sums. A way begins at the node in the middle; what lies before it, and what lies behind it, are
+// trees of their own, one less high. A tree of height 0 has no node.
+ghost use Rattle.std.specs.Prelude.{◌≡◌, ◌≤◌, ◌<◌, ◌+◌, length};
 ghost use Rattle.sums.specs.Descending.{Goes, IsHeight, IsMiddle, Totals};
 
 use level::Fraction;

@@ -1,6 +1,6 @@
 // A ledger: a register of claims, and behind it the sums over those in order, kept as claims are added and changed. It is
 // three rows of words of a fixed size that are lent, beside other things, so it is no vector.
-ghost use Rattle.std.specs.Prelude.{◌≡◌, ◌<◌, ◌≤◌, ◌+◌, ◌*◌, IfSome, IfNone, length, take, drop};
+ghost use Rattle.std.specs.Prelude.{◌≡◌, ◌<◌, ◌≤◌, ◌*◌, IfSome, IfNone};
 ghost use Rattle.register.specs.Row.{part};
 ghost use Rattle.register.specs.Rows.{Added, Changed};
 ghost use Rattle.sums.specs.Ledger.{room, Enters, Amends};
@@ -30,8 +30,8 @@ pub fn add(rows: &mut [u64], count: usize, claim: u64) -> Option<usize>
     Some(at)
 }
 
-// Changes the claim at a place, and answers from where to where it moved among those in order. Where that does not fit, nothing
-// is done.
+// Changes the claim at a place, and answers from where to where it moved among those in order. Where that does not fit,
+// nothing is done.
 #[tactic(auto, using(crate::proofs::Rows::amends, crate::proofs::Ledgers::changed))]
 pub fn change(rows: &mut [u64], count: usize, i: usize, claim: u64) -> Result<Moved, Unfit>
     ensures amends { Amends count i claim rows.old rows.new result }

@@ -1,6 +1,5 @@
 // A tree of sums over claims in ascending order: what all claims come to, and the level, are found going down it.
-ghost use Rattle.std.specs.Prelude.{◌≡◌, ◌≢◌, ◌≤◌, ◌<◌, ◌+◌, ◌*◌, ◌^◌, IfSome, IfNone, length, min, sum};
-ghost use Rattle.estate.specs.Limits.{most_there};
+ghost use Rattle.std.specs.Prelude.{◌≡◌, ◌≢◌, ◌≤◌, ◌<◌, ◌+◌, ◌*◌, ◌^◌, IfSome, IfNone, length, sum};
 ghost use Rattle.level.specs.Levels.{Fills};
 ghost use Rattle.level.specs.Sides.{divided_of};
 ghost use Rattle.level.specs.Terms.{Agreed, Found};
@@ -21,7 +20,7 @@ pub struct Tree<'a> {
 }
 
 impl<'a> Tree<'a> {
-    ghost use Rattle.sums.specs.Trees.{Descended, IsTree, Leads};
+    ghost use Rattle.sums.specs.Trees.{Descended, IsTree, Leads, LeadsTo};
 
     // None where there is not one sum for each claim.
     pub fn new(claims: &'a [u64], sums: &'a [u64]) -> Option<Self>
@@ -39,7 +38,8 @@ impl<'a> Tree<'a> {
     #[tactic(auto, using(crate::proofs::Found::in_all))]
     pub fn total(&self) -> u64
         ensures all { result ≡ total_of self.now.sums.now }
-        ensures sum { self.now.sums.now ≡ sums_of self.now.claims.now → result ≡ held (sum self.now.claims.now) }
+        ensures sum { self.now.sums.now ≡ sums_of self.now.claims.now
+            → result ≡ held (sum self.now.claims.now) }
     {
         total(height(self.sums.len()), self.sums)
     }
@@ -58,7 +58,8 @@ impl<'a> Tree<'a> {
     // The terms on which an estate is divided among the claims.
     fn terms_on(&self, estate: Estate) -> Terms
         ensures leads { Leads (divided_of estate) estate.claimed self.now result }
-        ensures agreed { IsTree self.now → Agreed (divided_of estate) estate.claimed self.now.claims.now result }
+        ensures agreed { IsTree self.now
+            → Agreed (divided_of estate) estate.claimed self.now.claims.now result }
     {
         Terms {
             side: estate.side(),
@@ -68,8 +69,7 @@ impl<'a> Tree<'a> {
 
     // The terms on which what is there is divided among the claims; none where more is there than may be.
     pub fn terms(&self, there: u64) -> Option<Terms>
-        ensures none { IfNone result (most_there < there) }
-        ensures some { IfSome result (λ terms. (there ≤ most_there) × Leads (min there (total_of self.now.sums.now)) (total_of self.now.sums.now) self.now terms) }
+        ensures leads { LeadsTo there self.now result }
         ensures found { IsTree self.now → Found there self.now.claims.now result }
     {
         let estate = Estate::new(there, self.total())?;
