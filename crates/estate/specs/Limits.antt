@@ -18,3 +18,7 @@ most_there = 1000000000000
 -- by all together
 abbrev pub most_claimed : ℕ
 most_claimed = most_creditors * most_cents
+
+-- the creditors that the programs serve
+abbrev pub most_served : ℕ
+most_served = 64

@@ -20,6 +20,9 @@ pub const MOST_THERE: u64 = 1_000_000_000_000;
 // The most creditors that there may be.
 pub const MOST_CREDITORS: usize = 1024;
 
+// The most creditors that the programs serve.
+pub const MOST_SERVED: usize = 64;
+
 // Whether one claim may be so many cents, and so many may come at once.
 pub fn cents_allowed(cents: u64) -> bool
     ensures { IsTrue result ↔ (cents ≤ most_cents) }

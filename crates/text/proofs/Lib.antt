@@ -1,0 +1,3 @@
+pub mod Lines
+pub mod Back
+pub mod Places

@@ -2,5 +2,7 @@
 #![tactic(auto)]
 
 mod printing;
+mod reading;
 
 pub use printing::{Shown, Spaced};
+pub use reading::{Division, ReadError, read_numbers, read_shares};

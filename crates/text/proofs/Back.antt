@@ -1,0 +1,88 @@
+-- What was printed is read back. Assumes nothing.
+use Rattle.std.proofs.Common.{◌≡◌, ℕ, suc, ◌+◌, ◌*◌, ◌/◌, ◌%◌, ◌^◌, ◌<◌, ◌≤◌, Bool, true, false, List, [], ◌∷◌, ◌++◌, length, drop, Some, None, Ok, Option, refl, sym, ap, ◌∙◌, arith}
+use Rattle.std.proofs.lemmas.Bool.Decides.{nat_tests}
+use Rattle.std.proofs.lemmas.Fmt.{decimal_by_steps}
+use Rattle.std.proofs.Math.Seq.{drop-append_seam}
+use Rattle.std.proofs.lemmas.List.{append-nil, append_assoc, length-append}
+use Rattle.std.specs.Prelude.{decimal, codes, nat_lt, ◌==◌}
+use Rattle.estate.specs.Answers.{parts}
+use Rattle.wire.specs.Bytes.{Fitting}
+use Rattle.text.specs.Laws.{NumbersBack, DivisionBack}
+use Rattle.text.specs.Printed.{behind, spaced, answer_text}
+use Rattle.text.specs.Read.{is_blank, grown, grows, so_far, closed, numbers_from, head_from}
+
+-- a number with its last digit
+digit_grows : (n : ℕ) → n < 2 ^ 64 → (grows (n / 10) (48 + n % 10) ≡ true) × (grown (n / 10) (48 + n % 10) ≡ n)
+digit_grows n fits = (grind (arith, nat_tests), omega arith)
+
+-- A reader that takes digits where a number may go on, from the place low on, takes those of a number.
+module _ {A : Type 0} (read : ℕ → Option ℕ → List ℕ → A) (low : ℕ) (takes : (at : ℕ) (begun : Option ℕ) (b : ℕ) (bs : List ℕ) → low ≤ at → grows (so_far begun) b ≡ true → read at begun (b ∷ bs) ≡ read (at + 1) (Some (grown (so_far begun) b)) bs) where
+  abbrev Taken : ℕ → List ℕ → Type 0
+  Taken n ds =
+      n < 2 ^ 64 → (at : ℕ) (rest : List ℕ) → low ≤ at → read at None (ds ++ rest) ≡ read (at + length ds) (Some n) rest
+
+  one_taken : (n : ℕ) → n < 10 → Taken n ((48 + n) ∷ [])
+  one_taken n less fits at rest l =
+      let value : grown 0 (48 + n) ≡ n = omega arith in
+      takes at None (48 + n) rest l (grind (arith, nat_tests)) ∙ ap (λ m. read (at + 1) (Some m) rest) value
+
+  more_taken : (n : ℕ) (ds : List ℕ) → 10 ≤ n → Taken (n / 10) ds → Taken n (ds ++ ((48 + n % 10) ∷ []))
+  more_taken n ds more h fits at rest l =
+      let last : ℕ = 48 + n % 10 in
+      let g = digit_grows n fits in
+      let front = h (omega arith) at (last ∷ rest) l in
+      let step = takes (at + length ds) (Some (n / 10)) last rest (omega arith) g.0 in
+      let place : at + length ds + 1 ≡ at + length (ds ++ (last ∷ [])) = omega (arith, length-append ds (last ∷ [])) in
+      ap (read at None) (append_assoc ds (last ∷ []) rest) ∙ (front ∙ (step ∙ rw (g.1, place) refl))
+
+  pub numeral_taken : (n : ℕ) → n < 2 ^ 64 → (at : ℕ) (rest : List ℕ) → low ≤ at → read at None (decimal n ++ rest) ≡ read (at + length (decimal n)) (Some n) rest
+  numeral_taken n fits = decimal_by_steps Taken one_taken more_taken n fits fits
+
+-- a digit is no blank, and no colon
+pub digit_next : (ns : List ℕ) (at : ℕ) (begun : Option ℕ) (b : ℕ) (bs : List ℕ) → 0 ≤ at → grows (so_far begun) b ≡ true → numbers_from at ns begun (b ∷ bs) ≡ numbers_from (at + 1) ns (Some (grown (so_far begun) b)) bs
+unfolding numbers_from
+digit_next ns at begun b bs l g =
+    let plain : is_blank b ≡ false = grind (arith, nat_tests) in
+    rw (plain, g) refl
+
+pub digit_heads : (at : ℕ) (begun : Option ℕ) (b : ℕ) (bs : List ℕ) → 2 ≤ at → grows (so_far begun) b ≡ true → head_from at begun (b ∷ bs) ≡ head_from (at + 1) (Some (grown (so_far begun) b)) bs
+unfolding head_from
+digit_heads at begun b bs l g =
+    let plain : (b == 58) ≡ false = grind (arith, nat_tests) in
+    let zero : (at == 0) ≡ false = grind (arith, nat_tests) in
+    let one : (at == 1) ≡ false = grind (arith, nat_tests) in
+    let behind : nat_lt at 2 ≡ false = grind (arith, nat_tests) in
+    rw (plain, zero, one, behind, g) refl
+
+-- numbers with a space before each are read behind those that were read
+behind_read : (ns : List ℕ) → Fitting ns → (at : ℕ) (ms : List ℕ) (begun : Option ℕ) → numbers_from at ms begun (behind ns) ≡ Ok (closed ms begun ++ ns)
+unfolding numbers_from
+behind_read [] fit at ms begun = ap Ok (sym (append-nil (closed ms begun)))
+behind_read (n ∷ ns) fit at ms begun =
+    let digits = numeral_taken (λ k b bs. numbers_from k (closed ms begun) b bs) 0 (digit_next (closed ms begun)) n (fit 0) (at + 1) (behind ns) (omega arith) in
+    let rest = behind_read ns (λ i. fit (suc i)) (at + 1 + length (decimal n)) (closed ms begun) (Some n) in
+    digits ∙ (rest ∙ ap Ok (append_assoc (closed ms begun) (n ∷ []) ns))
+
+pub numbers_back : NumbersBack
+unfolding numbers_from
+numbers_back [] fit = refl
+numbers_back (n ∷ ns) fit =
+    numeral_taken (λ k b bs. numbers_from k [] b bs) 0 (digit_next []) n (fit 0) 0 (behind ns) (omega arith) ∙ behind_read ns (λ i. fit (suc i)) (0 + length (decimal n)) [] (Some n)
+
+-- the head of a line of shares, and what is left behind it
+module _ (d : ℕ) (rest : List ℕ) (fits : d < 2 ^ 64) where
+  head_read : head_from 0 None (codes "d " ++ decimal d ++ codes ":" ++ rest) ≡ Ok (d, 2 + length (decimal d) + 1)
+  unfolding head_from
+  head_read =
+      ap (head_from 2 None) (append_assoc (decimal d) (codes ":") rest) ∙ numeral_taken head_from 2 digit_heads d fits 2 (codes ":" ++ rest) (omega arith)
+
+  behind_head : drop (2 + length (decimal d) + 1) (codes "d " ++ decimal d ++ codes ":" ++ rest) ≡ rest
+  behind_head =
+      let long : 2 + length (decimal d) + 1 ≡ length (codes "d " ++ decimal d ++ codes ":") = omega (arith, length-append (codes "d " ++ decimal d) (codes ":")) in
+      rw long (drop-append_seam (codes "d " ++ decimal d ++ codes ":") rest)
+
+pub division_back : DivisionBack
+division_back d xs fit =
+    let fits : Fitting xs = λ i. fit (suc i) in
+    let read : numbers_from (2 + length (decimal d) + 1) [] None (behind xs) ≡ Ok xs = behind_read xs fits (2 + length (decimal d) + 1) [] None in
+    rw (head_read d (behind xs) (fit 0), behind_head d (behind xs) (fit 0), read) refl

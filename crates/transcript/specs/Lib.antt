@@ -1,0 +1,4 @@
+pub mod Sessions
+pub mod Cutting
+pub mod Transcripts
+pub mod Laws

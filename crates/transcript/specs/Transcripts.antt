@@ -1,0 +1,34 @@
+-- What a desk answers to a row of calls, and that as text. Assumes nothing.
+use Rattle.std.specs.Prelude.{◌≡◌, ℕ, List, [], ◌∷◌, ◌++◌}
+use Rattle.std.specs.List.{flat_map}
+use Rattle.estate.specs.Answers.{Answer}
+use Rattle.estate.specs.Calls.{Call}
+use Rattle.estate.specs.Changes.{after}
+use Rattle.estate.specs.Estates.{Estate, new_estate}
+use Rattle.estate.specs.Limits.{Limits}
+use Rattle.estate.specs.Right.{right, answered}
+use Rattle.text.specs.Printed.{answer_text}
+use Rattle.transcript.specs.Cutting.{Holds}
+use Rattle.transcript.specs.Sessions.{served}
+
+-- the answers to a row of calls, each for the estate that those before it left
+unfoldable pub answers : Limits → Estate → List Call → List Answer
+answers l e [] = []
+answers l e (c ∷ cs) = answered l e c ∷ answers l (after l e c) cs
+
+-- an answer as a line
+abbrev pub line : Answer → List ℕ
+line a = answer_text a ++ (10 ∷ [])
+
+abbrev pub lines : List Answer → List ℕ
+lines as = flat_map line as
+
+-- the text that answers a file, line by line
+abbrev pub IsTranscript : List ℕ → List ℕ → Type 0
+IsTranscript bs text = (cs : List Call) × Holds bs cs × (text ≡ lines (answers served new_estate cs))
+
+-- each of these answers is right
+unfoldable pub AllRight : Limits → Estate → List Call → List Answer → Type 0
+AllRight l e [] as = as ≡ []
+AllRight l e (c ∷ cs) [] = ⊥
+AllRight l e (c ∷ cs) (a ∷ as) = right l e c a × AllRight l (after l e c) cs as
