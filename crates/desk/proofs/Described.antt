@@ -16,7 +16,7 @@ use Rattle.estate.specs.Limits.{Limits, most_cents, most_there}
 use Rattle.estate.specs.Refusals.{check, first_refusal, turned, place}
 use Rattle.estate.specs.Right.{says, answered}
 use Rattle.estate.proofs.ClosedForm.{closed_divides}
-use Rattle.estate.proofs.Facts.{facts}
+use Rattle.estate.proofs.Limited.{shares_agree, parts_small, claim_small, share_small}
 use Rattle.estate.proofs.WholeCents.{cents_add_up}
 use Rattle.wire.specs.Answers.{answer_row, Sendable}
 use Rattle.wire.specs.Bytes.{Fitting}
@@ -24,7 +24,7 @@ use Rattle.wire.specs.Meaning.{refusal_number}
 use Rattle.wire.specs.declared.refusals.Refusal.{Refusal}
 use Rattle.wire.specs.declared.refusals.Refusal.TheVariants.{Unreadable, TooLarge, NotThere, NoRoom}
 use Rattle.wire.specs.declared.refusals.TurnedAway.{TurnedAway}
-use Rattle.wire.proofs.Bytes.{length-row}
+use Rattle.wire.proofs.Bytes.{fitting_more, length-row}
 use Rattle.desk.specs.Memory.{words_asked, bytes_asked, limits_of, estate_of, rest_of, layout, Fair}
 use Rattle.desk.specs.Calling.{is_refused, Given, Called}
 use Rattle.desk.specs.Promises.{DescribedObeys}
@@ -52,10 +52,6 @@ pub record Fits (n : ℕ) (a : Answer) : Type 0 where
   pub room : length (answer_row a) ≤ bytes_asked n
   pub answers : is_refused a ≡ false
 
-fitting_more : (n : ℕ) (ns : List ℕ) → n < 2 ^ 64 → Fitting ns → Fitting (n ∷ ns)
-fitting_more n ns less rest zero = less
-fitting_more n ns less rest (suc i) = rest i
-
 number_fits : (l n : ℕ) → n < 2 ^ 64 → Fits l (number n)
 number_fits l n less = record {
   sendable = record { listed = tt; fitting = fitting_more n [] less (λ i. omega arith) };
@@ -70,19 +66,14 @@ module _ (l : Limits) (e : Estate) (f : Fair l e) where
   abbrev xs : List ℕ
   xs = division (divided e) (counted e)
 
-  few : d ≤ 2048
-  few =
-      omega (arith, (closed_divides (divided e) (counted e) (omega arith)).0, f.within.few)
-
   divides : Agrees d (divided e) (counted e) xs
-  divides = facts _ _ _ _ (closed_divides (divided e) (counted e) (omega arith)).1
+  divides = shares_agree e f.within
 
-  claim_few : (i : ℕ) → slice_index (counted e) i ≤ most_cents
-  claim_few i = let inside = f.within.each i 0 in grind (arith, places)
+  few : d ≤ 2048
+  few = parts_small e f.within
 
-  share_few : Fitting xs
-  share_few i =
-      omega (arith, divides.below i, mul-le-mul few (claim_few i))
+  share_fits : Fitting xs
+  share_fits i = omega (arith, share_small e f.within i)
 
   says_fits : (c : Call) → (turned l e c == 0) ≡ true → Fits l.creditors (says e c)
   unfolding says
@@ -90,14 +81,14 @@ module _ (l : Limits) (e : Estate) (f : Fair l e) where
   says_fits (proves i c) t = let there : i < length (counted e) = grind (arith, nat_tests) in number_fits _ _ (omega (arith, f.few, f.limit))
   says_fits (comes x) t = let few : amount e + x ≤ most_there = grind (arith, nat_tests) in number_fits _ _ (omega arith)
   says_fits shares t = record {
-    sendable = record { listed = tt; fitting = fitting_more d (length xs ∷ xs) (omega (arith, few)) (fitting_more (length xs) xs (omega (arith, divides.paired, f.within.few)) share_few) };
+    sendable = record { listed = tt; fitting = fitting_more d (length xs ∷ xs) (omega (arith, few)) (fitting_more (length xs) xs (omega (arith, divides.paired, f.within.few)) share_fits) };
     room = omega (arith, length-row, divides.paired, f.few);
     answers = refl;
   }
   says_fits cents t =
       let p = cents_add_up d (divided e) (counted e) xs (closed_divides (divided e) (counted e) (omega arith)).1 in
       record {
-        sendable = record { listed = tt; fitting = fitting_more _ _ (omega (arith, p.paired, f.within.few)) (λ i. omega (arith, p.below i, claim_few i)) };
+        sendable = record { listed = tt; fitting = fitting_more _ _ (omega (arith, p.paired, f.within.few)) (λ i. omega (arith, p.below i, claim_small e f.within i)) };
         room = omega (arith, length-row, p.paired, f.few);
         answers = refl;
       }

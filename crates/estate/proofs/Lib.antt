@@ -11,6 +11,7 @@ pub mod Filled
 pub mod ClosedForm
 pub mod WholeCents
 pub mod SameCents
+pub mod Limited
 pub mod RightAnswers
 pub mod Examples
 pub mod Carried

@@ -33,7 +33,7 @@ no_error r x p value error = false≢true (ap is_ok (sym error ∙ value))
 one_place : {A : Type 0} (r : Reading A) (k p : ℕ) → r ≡ Err k → r ≡ Err p → k ≡ p
 one_place r k p this that = ap (λ s. unwrap_or (result_err s) 0) (sym this ∙ that)
 
-one_value : {A : Type 0} (r : Reading A) (x y : A) → r ≡ Ok x → r ≡ Ok y → x ≡ y
+pub one_value : {A : Type 0} (r : Reading A) (x y : A) → r ≡ Ok x → r ≡ Ok y → x ≡ y
 one_value r x y this that = ap (λ s. result_unwrap_or s x) (sym this ∙ that)
 
 -- numbers

@@ -9,6 +9,10 @@ use Rattle.std.proofs.lemmas.Nat.{le_bytes_8, from_le_bytes-to_le_bytes_8}
 use Rattle.std.proofs.lemmas.Grind.{common_steps, flat_map-append}
 use Rattle.wire.specs.Bytes.{Bytes, Fitting, eight, number_at, numbers, row}
 
+pub fitting_more : (n : ℕ) (ns : List ℕ) → n < 2 ^ 64 → Fitting ns → Fitting (n ∷ ns)
+fitting_more n ns less rest zero = less
+fitting_more n ns less rest (suc i) = rest i
+
 pub bytes_take : (n : ℕ) (bs : List ℕ) → Bytes bs → Bytes (take n bs)
 bytes_take n bs h i = grind (arith, places)
 

@@ -1,0 +1,72 @@
+-- The first feed of a text, and texts without one. Assumes nothing.
+use Rattle.std.proofs.Common.{◌≡◌, ℕ, ◌+◌, ◌/◌, ◌%◌, ◌^◌, ◌<◌, ◌≤◌, true, false, List, [], ◌∷◌, ◌++◌, length, take, drop, suc, refl, sym, ap, ◌∙◌, arith}
+use Rattle.std.proofs.Math.Seq.{drop-append_seam, take-append_seam}
+use Rattle.std.proofs.lemmas.Bool.Decides.{nat_tests}
+use Rattle.std.proofs.lemmas.Fmt.{decimal_by_steps}
+use Rattle.std.proofs.lemmas.List.{at_drop_more, drop_all, append_assoc, length-append}
+use Rattle.std.specs.Prelude.{slice_index, ◌==◌, cond, not, decimal, codes}
+use Rattle.estate.specs.Answers.{parts}
+use Rattle.wire.specs.Bytes.{Fitting}
+use Rattle.text.specs.Printed.{behind, spaced, answer_text}
+use Rattle.auditing.specs.Texts.{feed_at, first_line, rest_of}
+
+-- that of what is left at a place
+pub feed_next : (at : ℕ) (text : List ℕ) → at < length text → feed_at (drop at text) ≡ cond (not (slice_index text at == 10)) (1 + feed_at (drop (at + 1) text)) 0
+feed_next at text less = at_drop_more feed_at text at 0 less
+
+pub feed_end : (at : ℕ) (text : List ℕ) → length text ≤ at → feed_at (drop at text) ≡ 0
+feed_end at text more = rw (drop_all at text more) refl
+
+pub ruleset feeds = (feed_next, feed_end)
+
+-- In these bytes there is none: whatever is behind them has the first.
+abbrev pub OneLine : List ℕ → Type 0
+OneLine xs = (rest : List ℕ) → feed_at (xs ++ rest) ≡ length xs + feed_at rest
+
+one_byte : (b : ℕ) → (b == 10) ≡ false → OneLine (b ∷ [])
+one_byte b h rest = rw h refl
+
+one_line-append : (xs ys : List ℕ) → OneLine xs → OneLine ys → OneLine (xs ++ ys)
+one_line-append xs ys x y rest =
+    ap feed_at (append_assoc xs ys rest) ∙ omega (arith, x (ys ++ rest), y rest, length-append xs ys)
+
+one_line-decimal : (n : ℕ) → n < 2 ^ 64 → OneLine (decimal n)
+one_line-decimal n fits =
+    decimal_by_steps
+        (λ _ ds. OneLine ds)
+        (λ k less. one_byte (48 + k) (grind (arith, nat_tests)))
+        (λ k ds more front. one_line-append ds ((48 + k % 10) ∷ []) front (one_byte (48 + k % 10) (grind (arith, nat_tests))))
+        n
+        fits
+
+one_line-behind : (ns : List ℕ) → Fitting ns → OneLine (behind ns)
+one_line-behind [] fit = λ rest. omega arith
+one_line-behind (n ∷ ns) fit =
+    one_line-append (codes " " ++ decimal n) (behind ns) (one_line-append (codes " ") (decimal n) (one_byte 32 refl) (one_line-decimal n (fit 0))) (one_line-behind ns (λ i. fit (suc i)))
+
+pub one_line-spaced : (ns : List ℕ) → Fitting ns → OneLine (spaced ns)
+one_line-spaced [] fit = λ rest. omega arith
+one_line-spaced (n ∷ ns) fit =
+    one_line-append (decimal n) (behind ns) (one_line-decimal n (fit 0)) (one_line-behind ns (λ i. fit (suc i)))
+
+pub one_line-parts : (d : ℕ) (xs : List ℕ) → d < 2 ^ 64 → Fitting xs → OneLine (answer_text (parts d xs))
+one_line-parts d xs fits fit =
+    let letter = one_line-append (100 ∷ []) (32 ∷ []) (one_byte 100 refl) (one_byte 32 refl) in
+    let number = one_line-append (codes "d ") (decimal d) letter (one_line-decimal d fits) in
+    let head = one_line-append (codes "d " ++ decimal d) (codes ":") number (one_byte 58 refl) in
+    one_line-append (codes "d " ++ decimal d ++ codes ":") (behind xs) head (one_line-behind xs fit)
+
+-- so with a feed behind them they are the first line
+module _ (xs rest : List ℕ) (one : OneLine xs) where
+  long : feed_at (xs ++ (10 ∷ rest)) ≡ length xs
+  long = omega (arith, one (10 ∷ rest))
+
+  pub first_line-printed : first_line (xs ++ (10 ∷ rest)) ≡ xs
+  first_line-printed =
+      ap (λ n. take n (xs ++ (10 ∷ rest))) long ∙ take-append_seam xs (10 ∷ rest)
+
+  pub rest_of-printed : rest_of (xs ++ (10 ∷ rest)) ≡ rest
+  rest_of-printed =
+      let whole = append_assoc xs (10 ∷ []) rest in
+      let place : feed_at (xs ++ (10 ∷ rest)) + 1 ≡ length (xs ++ (10 ∷ [])) = omega (arith, long, length-append xs (10 ∷ [])) in
+      ap (λ n. drop n (xs ++ (10 ∷ rest))) place ∙ (ap (drop (length (xs ++ (10 ∷ [])))) (sym whole) ∙ drop-append_seam (xs ++ (10 ∷ [])) rest)

@@ -1,0 +1,159 @@
+-- What an audit finds. Assumes nothing.
+use Rattle.std.proofs.Common.{◌≡◌, ℕ, ◌<◌, ◌≤◌, Bool, true, false, List, [], ◌∷◌, ◌++◌, length, Ok, Err, refl, sym, ap, ◌∙◌, arith}
+use Rattle.std.proofs.lemmas.Bool.Decides.{nat_tests}
+use Rattle.std.specs.Prelude.{nat_lt, ◌<◌, ◌^◌}
+use Rattle.estate.specs.Answers.{parts}
+use Rattle.estate.specs.Closed.{denominator, division}
+use Rattle.estate.specs.Estates.{Estate, counted, divided, Within}
+use Rattle.estate.specs.Limits.{most_served}
+use Rattle.estate.proofs.ClosedForm.{closed_divides}
+use Rattle.estate.proofs.Limited.{claim_small, parts_small, share_small}
+use Rattle.estate.specs.Right.{says}
+use Rattle.wire.specs.Bytes.{Fitting}
+use Rattle.wire.proofs.Bytes.{fitting_more}
+use Rattle.text.proofs.Back.{numbers_back, division_back}
+use Rattle.text.proofs.Places.{one_value}
+use Rattle.auditing.proofs.Feeds.{OneLine, one_line-spaced, one_line-parts, first_line-printed, rest_of-printed}
+use Rattle.shares.specs.Pairs.{Answered, Verdict}
+use Rattle.shares.proofs.EachTwo.{accepts_divisions, one_verdict, only_divisions as only_divided}
+use Rattle.text.specs.Read.{Reading, numbers_of, division_of}
+use Rattle.auditing.specs.Audits.{Checked, HasClaims, HasMore, HasShares, IsAudited}
+use Rattle.text.specs.Printed.{spaced, answer_text}
+use Rattle.auditing.specs.Laws.{printed, OneFinding, DesksPass, OnlyDivisions}
+use Rattle.auditing.specs.Texts.{first_line, rest_of, is_space}
+use Rattle.auditing.specs.declared.checking.Finding.{Finding}
+use Rattle.auditing.specs.declared.checking.Finding.TheVariants.{Right, Wrong, Claims, TooMany, Shares, More}
+
+-- as many claims as are served are not more
+served : (cs : List ℕ) → length cs ≤ most_served → nat_lt most_served (length cs) ≡ false
+served cs few = grind (arith, nat_tests)
+
+-- a check's answer as a finding
+abbrev judged : Answered → Finding
+judged (Ok _) = Right
+judged (Err fault) = Wrong fault
+
+-- The same as `IsAudited`, by what is read: of shares and what is behind them, of what is behind the claims, and of a text.
+abbrev AtEnd : Bool → ℕ → List ℕ → List ℕ → Finding → Type 0
+AtEnd true d cs xs f = (r : Answered) × Verdict d cs xs r × (f ≡ judged r)
+AtEnd false d cs xs f = f ≡ More
+
+abbrev InShares : Bool → List ℕ → Reading (ℕ × List ℕ) → Finding → Type 0
+InShares ends cs (Ok h) f = AtEnd ends h.0 cs h.1 f
+InShares ends cs (Err p) f = f ≡ Shares p
+
+abbrev Behind : Bool → List ℕ → Bool → Reading (ℕ × List ℕ) → Finding → Type 0
+Behind true cs ends shares f = f ≡ TooMany
+Behind false cs ends shares f = InShares ends cs shares f
+
+abbrev InClaims : Reading (List ℕ) → Bool → Reading (ℕ × List ℕ) → Finding → Type 0
+InClaims (Ok cs) ends shares f = Behind (nat_lt most_served (length cs)) cs ends shares f
+InClaims (Err p) ends shares f = f ≡ Claims p
+
+-- what is found in a text
+abbrev InText : List ℕ → Finding → Type 0
+InText text f =
+    InClaims (numbers_of (first_line text)) (is_space (rest_of (rest_of text))) (division_of (first_line (rest_of text))) f
+
+in_text : (text : List ℕ) (f : Finding) → IsAudited text f → InText text f
+in_text text (Claims p) e = rw e refl
+in_text text TooMany (cs, e, more) =
+    let above : nat_lt most_served (length cs) ≡ true = grind (arith, nat_tests) in
+    rw (e, above) refl
+in_text text (Shares p) (cs, claims, e) = rw (claims.read, served cs claims.few, e) refl
+in_text text More m =
+    rw (m.has_claims.read, served m.claims m.has_claims.few, m.has_shares.read, m.more) refl
+in_text text (Wrong fault) c =
+    rw (c.has_claims.read, served c.claims c.has_claims.few, c.has_shares.read, c.ends) (Err fault, c.verdict, refl)
+in_text text Right c =
+    rw (c.has_claims.read, served c.claims c.has_claims.few, c.has_shares.read, c.ends) (Ok tt, c.verdict, refl)
+
+one_in_claims : (claims : Reading (List ℕ)) (ends : Bool) (shares : Reading (ℕ × List ℕ)) (f g : Finding) → InClaims claims ends shares f → InClaims claims ends shares g → f ≡ g
+one_in_claims (Err p) ends shares f g this that = this ∙ sym that
+one_in_claims (Ok cs) ends shares f g this that = behind (nat_lt most_served (length cs)) shares ends this that
+  where
+    behind : (b : Bool) (shares : Reading (ℕ × List ℕ)) (ends : Bool) → Behind b cs ends shares f → Behind b cs ends shares g → f ≡ g
+    behind true shares ends this that = this ∙ sym that
+    behind false (Err p) ends this that = this ∙ sym that
+    behind false (Ok h) false this that = this ∙ sym that
+    behind false (Ok h) true (r, v, this) (s, w, that) =
+        this ∙ (ap judged (one_verdict h.0 cs h.1 r s v w) ∙ sym that)
+
+pub one_finding : OneFinding
+one_finding text f g this that = one_in_claims (numbers_of (first_line text)) (is_space (rest_of (rest_of text))) (division_of (first_line (rest_of text))) f g (in_text text f this) (in_text text g that)
+
+-- what was printed of an estate within the limits
+module _ (e : Estate) (within : Within e) (few : length (counted e) ≤ most_served) where
+  abbrev d : ℕ
+  d = denominator (divided e) (counted e)
+
+  abbrev xs : List ℕ
+  xs = division (divided e) (counted e)
+
+  claims_fit : Fitting (counted e)
+  claims_fit i = omega (arith, claim_small e within i)
+
+  parts_fit : d < 2 ^ 64
+  parts_fit = omega (arith, parts_small e within)
+
+  shares_fit : Fitting xs
+  shares_fit i = omega (arith, share_small e within i)
+
+  claims_line : OneLine (spaced (counted e))
+  claims_line = one_line-spaced (counted e) claims_fit
+
+  shares_line : OneLine (answer_text (parts d xs))
+  shares_line = one_line-parts d xs parts_fit shares_fit
+
+  abbrev shares_text : List ℕ
+  shares_text = answer_text (parts d xs) ++ (10 ∷ [])
+
+  passed : (f : Finding) → AtEnd true d (counted e) xs f → f ≡ Right
+  passed f (r, v, is) =
+      is ∙ ap judged (accepts_divisions d (divided e) (counted e) xs r v (closed_divides (divided e) (counted e) (omega arith)).1)
+
+  passes : (f : Finding) → InText (spaced (counted e) ++ (10 ∷ shares_text)) f → f ≡ Right
+  passes f found =
+      let first = first_line-printed (spaced (counted e)) shares_text claims_line in
+      let rest = rest_of-printed (spaced (counted e)) shares_text claims_line in
+      let second = first_line-printed (answer_text (parts d xs)) [] shares_line in
+      let end = rest_of-printed (answer_text (parts d xs)) [] shares_line in
+      let claims = numbers_back (counted e) claims_fit in
+      let shares = division_back d xs (fitting_more d xs parts_fit shares_fit) in
+      passed f (rw (first, rest, second, end, claims, served (counted e) few, shares) at found)
+
+pub desks_pass : DesksPass
+unfolding says
+desks_pass e f within few found = passes e within few f (in_text (printed e) f found)
+
+pub only_divisions : OnlyDivisions
+unfolding OnlyDivisions
+only_divisions text d e cs xs found claims shares whole =
+    let same : found.claims ≡ cs = one_value _ _ _ found.has_claims.read claims.read in
+    let parted : (found.d, found.shares) ≡ (d, xs) = one_value _ _ _ found.has_shares.read shares.read in
+    only_divided d e cs xs (rw (sym same, sym (ap (λ p. p.0) parted), sym (ap (λ p. p.1) parted)) found.verdict) whole
+
+-- what is found of claims and shares that were read
+module _ (text cs : List ℕ) (d : ℕ) (xs : List ℕ) (claims : numbers_of (first_line text) ≡ Ok cs) (few : length cs ≤ most_served) (shares : division_of (first_line (rest_of text)) ≡ Ok (d, xs)) where
+  pub found_more : is_space (rest_of (rest_of text)) ≡ false → HasMore text
+  found_more more = record {
+    claims = cs;
+    d = d;
+    shares = xs;
+    has_claims = record { read = claims; few = few };
+    has_shares = record { read = shares };
+    more = more;
+  }
+
+  pub found_checked : (r s : Answered) → is_space (rest_of (rest_of text)) ≡ true → Verdict d cs xs r → r ≡ s → Checked text s
+  found_checked r s ends verdict same = record {
+    claims = cs;
+    d = d;
+    shares = xs;
+    has_claims = record { read = claims; few = few };
+    has_shares = record { read = shares };
+    ends = ends;
+    verdict = rw (sym same) verdict;
+  }
+
+pub ruleset audits = (found_more, found_checked, one_finding, desks_pass, only_divisions)

@@ -1,0 +1,2 @@
+pub mod Feeds
+pub mod Findings

@@ -1,0 +1,3 @@
+pub mod Texts
+pub mod Audits
+pub mod Laws
