@@ -1,65 +1,34 @@
-// Answers a file of calls, or standard input, a line for each call.
+// Answers a file of calls, a line for each call.
 #![tactic(auto)]
 
-use desk::{asked, call, open};
-use std::io::Read;
+use anyhow::Result;
+use command_line::{Command, parse};
 use std::rt::{Env, Files};
-use std::{env, fs, io};
-use wire::{Answer, Calls};
+use transcript::transcript;
 
-// How many creditors are served.
-const MOST_SERVED: usize = 64;
+const USAGE: &str = "usage: answer [FILE]
 
-// The bytes of the file that the first argument names, or of standard input.
-fn input(rt: &(impl Env + Files + Input + AllocGlobal)) -> io::Result<Vec<u8>> {
-    if let Some(path) = env::args(rt)?.nth(1) {
-        return fs::read(rt, path.as_str());
-    }
-    let mut bytes = Vec::new(rt.alloc());
-    rt.reader().read_to_end(&mut bytes)?;
-    Ok(bytes)
-}
+Reads calls from FILE, or from standard input, one behind the other, and answers each with a line, at a
+desk for 64 creditors. A call is a byte, and numbers of eight bytes each, low byte first:
 
-// Prints an answer as a line: `d 6: 200 200 200`, `34 33 33`, a number or a refusal.
-fn print(rt: &impl Print, answer: &Answer<Vec<u64>>) -> io::Result<()> {
-    match answer {
-        Answer::Refused(turned_away) => println!(rt; "{turned_away}"),
-        Answer::Number(n) => println!(rt; "{n}"),
-        Answer::Parts(d, shares) => {
-            print!(rt; "d {d}:")?;
-            print_list(rt, shares, " ")
-        }
-        Answer::Amounts(cents) => print_list(rt, cents, ""),
-    }
-}
+    0 CENTS         claim: a claim of so many cents, last
+    1 PLACE CENTS   prove: the claim at this place, counted from 0, is so much from now on
+    2 CENTS         come: so many cents more are there
+    3               shares: what each creditor has, in parts of a cent
+    4               cents: what each creditor has, in whole cents
 
-// Prints numbers with a space between them and `before` the first, and ends the line.
-fn print_list(rt: &impl Print, list: &[u64], before: &str) -> io::Result<()> {
-    let mut gap = before;
-    for n in list {
-        print!(rt; "{gap}{n}")?;
-        gap = " ";
-    }
-    println!(rt; "")
-}
+An answer is a number, shares as `d 6: 200 200 200`, cents as `34 33 33`, or a refusal and the place that it
+is about, as `refused 5 at 0`.";
 
-// Answers each call at a desk in memory of the program's own.
-#[tactic(auto, unfolding(desk::specs::Calling::Called))]
-fn run(rt: &(impl Env + Files + Input + Print + AllocGlobal)) -> anyhow::Result<()> {
-    let calls = input(rt)?;
-    let loan = asked(MOST_SERVED)?;
-    let mut mem = vec![in rt.alloc(); 0; loan.words]?;
-    let mut out = vec![in rt.alloc(); 0; loan.bytes]?;
-    open(&mut mem, MOST_SERVED)?;
-    for bytes in Calls(&calls) {
-        match call(&mut mem, bytes, &mut out) {
-            Ok(length) => print(rt, &Answer::decode(rt.alloc(), &out[..length])?)?,
-            Err(turned_away) => println!(rt; "{turned_away}")?,
-        }
+// Prints the answers to the calls that it is asked about.
+fn run(rt: &(impl Env + Files + Input + Print + AllocGlobal)) -> Result<()> {
+    match parse(rt)? {
+        Command::Read(calls) => print!(rt; "{}", transcript(rt.alloc(), &calls)?)?,
+        Command::Help => println!(rt; "{USAGE}")?,
     }
     Ok(())
 }
 
-fn main(rt: HostRuntime) -> anyhow::Result<()> {
+fn main(rt: HostRuntime) -> Result<()> {
     run(&rt)
 }

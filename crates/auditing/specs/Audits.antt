@@ -65,4 +65,4 @@ finding_text (Claims p) =
 finding_text TooMany = codes "line 1: more than " ++ decimal most_served ++ codes " claims"
 finding_text (Shares p) =
     codes "line 2, from byte " ++ decimal p ++ codes " on: shares are written as d 6: 200 200 200"
-finding_text More = codes "line 3: nothing stands behind the shares"
+finding_text More = codes "line 3: nothing may stand behind the shares"

@@ -44,7 +44,7 @@ impl fmt::Display for Finding {
             Finding::Shares(at) => {
                 write!(f, "line 2, from byte {at} on: shares are written as d 6: 200 200 200")
             }
-            Finding::More => write!(f, "line 3: nothing stands behind the shares"),
+            Finding::More => write!(f, "line 3: nothing may stand behind the shares"),
         }
     }
 }
