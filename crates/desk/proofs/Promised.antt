@@ -79,7 +79,7 @@ abbrev zeros : Memory → List ℕ
 zeros m = replicate (bytes_asked (limits_of m.words).creditors) 0
 
 -- a desk that stands asks for no more than its memory
-lent_enough : (m out : List ℕ) → Stands m → bytes_asked (limits_of m).creditors ≤ length out → Lent m out
+pub lent_enough : (m out : List ℕ) → Stands m → bytes_asked (limits_of m).creditors ≤ length out → Lent m out
 lent_enough m out s enough =
     let l = s.laid in
     let c = count_read (limits_of m).creditors (estate_of m) (rest_of m) s.fair.few in

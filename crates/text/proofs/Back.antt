@@ -1,14 +1,13 @@
 -- What was printed is read back. Assumes nothing.
-use Rattle.std.proofs.Common.{◌≡◌, ℕ, suc, ◌+◌, ◌*◌, ◌/◌, ◌%◌, ◌^◌, ◌<◌, ◌≤◌, Bool, true, false, List, [], ◌∷◌, ◌++◌, length, drop, Some, None, Ok, Option, refl, sym, ap, ◌∙◌, arith}
+use Rattle.std.proofs.Common.{◌≡◌, ℕ, suc, ◌+◌, ◌/◌, ◌%◌, ◌^◌, ◌<◌, ◌≤◌, true, false, List, [], ◌∷◌, ◌++◌, length, drop, Some, None, Ok, Option, refl, sym, ap, ◌∙◌, arith}
 use Rattle.std.proofs.lemmas.Bool.Decides.{nat_tests}
 use Rattle.std.proofs.lemmas.Fmt.{decimal_by_steps}
 use Rattle.std.proofs.Math.Seq.{drop-append_seam}
 use Rattle.std.proofs.lemmas.List.{append-nil, append_assoc, length-append}
 use Rattle.std.specs.Prelude.{decimal, codes, nat_lt, ◌==◌}
-use Rattle.estate.specs.Answers.{parts}
 use Rattle.wire.specs.Bytes.{Fitting}
 use Rattle.text.specs.Laws.{NumbersBack, DivisionBack}
-use Rattle.text.specs.Printed.{behind, spaced, answer_text}
+use Rattle.text.specs.Printed.{behind}
 use Rattle.text.specs.Read.{is_blank, grown, grows, so_far, closed, numbers_from, head_from}
 
 -- a number with its last digit

@@ -1,3 +1,4 @@
 pub mod Lines
 pub mod Back
 pub mod Places
+pub mod Heads

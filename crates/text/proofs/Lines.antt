@@ -1,8 +1,8 @@
 -- A line is read byte by byte. Assumes nothing.
-use Rattle.std.proofs.Common.{◌≡◌, ℕ, suc, ◌+◌, ◌<◌, ◌≤◌, Bool, true, false, List, [], ◌∷◌, length, drop, Some, None, Ok, Err, Option, refl, arith}
+use Rattle.std.proofs.Common.{◌≡◌, ℕ, ◌+◌, ◌<◌, ◌≤◌, List, length, drop, Some, None, Ok, Err, Option, refl}
 use Rattle.std.proofs.lemmas.List.{at_drop_more, drop_all}
-use Rattle.std.specs.Prelude.{if◌then◌else◌, slice_index, is_some, ◌&&◌, ◌==◌, nat_lt}
-use Rattle.text.specs.Read.{Reading, is_blank, grown, grows, so_far, closed, headed, heads, numbers_from, head_from}
+use Rattle.std.specs.Prelude.{if◌then◌else◌, slice_index, is_some, ◌&&◌, ◌==◌}
+use Rattle.text.specs.Read.{is_blank, grown, grows, so_far, closed, headed, heads, numbers_from, head_from}
 
 -- the byte at a place, and those behind it
 pub numbers_next : (at : ℕ) (ns : List ℕ) (begun : Option ℕ) (line : List ℕ) → at < length line → numbers_from at ns begun (drop at line) ≡ (if is_blank (slice_index line at) then numbers_from (at + 1) (closed ns begun) None (drop (at + 1) line) else (if grows (so_far begun) (slice_index line at) then numbers_from (at + 1) ns (Some (grown (so_far begun) (slice_index line at))) (drop (at + 1) line) else Err at))

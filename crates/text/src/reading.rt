@@ -41,7 +41,7 @@ pub fn read_numbers(heap: Global, line: &[u8]) -> Result<Vec<u64>, ReadError>
 }
 
 // The shares in a line: `d 6: 200 200 200`.
-#[tactic(auto, using(crate::proofs::Back::division_back, crate::proofs::Places::division_misfits_first))]
+#[tactic(auto, using(crate::proofs::Back::division_back, crate::proofs::Heads::division_misfits_first))]
 pub fn read_shares(heap: Global, line: &[u8]) -> Result<Division, ReadError>
     ensures read { IsRead in_parts (division_of line.now) result }
     ensures back { DivisionBack }

@@ -1,0 +1,3 @@
+pub mod Serving
+pub mod Cuts
+pub mod Lines

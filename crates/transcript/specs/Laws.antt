@@ -4,12 +4,13 @@ use Rattle.std.specs.List.{flat_map}
 use Rattle.estate.specs.Calls.{Call, garbled}
 use Rattle.estate.specs.Estates.{Estate}
 use Rattle.estate.specs.Limits.{Limits}
+use Rattle.wire.specs.Bytes.{Bytes}
 use Rattle.wire.specs.Calls.{Sendable, call_row}
 use Rattle.transcript.specs.Cutting.{Holds, Unread}
 use Rattle.transcript.specs.Transcripts.{answers, IsTranscript, AllRight}
 
 -- one text answers a file
-abbrev pub OneTranscript : Type 0
+unfoldable pub OneTranscript : Type 0
 OneTranscript = (bs t u : List ℕ) → IsTranscript bs t → IsTranscript bs u → t ≡ u
 
 -- a file in which calls were written one behind the other holds these, and then what the rest of it holds
@@ -31,7 +32,7 @@ pub record IsCut (bs : List ℕ) (cs : List Call) : Type 0 where
   pub held : ((rest ≡ []) × (cs ≡ calls)) ⊎ ((p : ℕ) × Unread rest p × (cs ≡ calls ++ (garbled p ∷ [])))
 
 abbrev pub Cut : Type 0
-Cut = (bs : List ℕ) (cs : List Call) → Holds bs cs → IsCut bs cs
+Cut = (bs : List ℕ) (cs : List Call) → Bytes bs → Holds bs cs → IsCut bs cs
 
 -- each answer is right for the estate that the calls before it left
 abbrev pub EachRight : Type 0

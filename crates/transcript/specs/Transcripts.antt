@@ -21,14 +21,14 @@ abbrev pub line : Answer → List ℕ
 line a = answer_text a ++ (10 ∷ [])
 
 abbrev pub lines : List Answer → List ℕ
-lines as = flat_map line as
+lines said = flat_map line said
 
 -- the text that answers a file, line by line
-abbrev pub IsTranscript : List ℕ → List ℕ → Type 0
+unfoldable pub IsTranscript : List ℕ → List ℕ → Type 0
 IsTranscript bs text = (cs : List Call) × Holds bs cs × (text ≡ lines (answers served new_estate cs))
 
 -- each of these answers is right
 unfoldable pub AllRight : Limits → Estate → List Call → List Answer → Type 0
-AllRight l e [] as = as ≡ []
+AllRight l e [] said = said ≡ []
 AllRight l e (c ∷ cs) [] = ⊥
-AllRight l e (c ∷ cs) (a ∷ as) = right l e c a × AllRight l (after l e c) cs as
+AllRight l e (c ∷ cs) (a ∷ said) = right l e c a × AllRight l (after l e c) cs said

@@ -9,6 +9,7 @@ use text::Shown;
 use wire::Calls;
 
 // The answers to the calls that a file holds, one behind the other, a line for each.
+#[tactic(auto, using(crate::proofs::Lines::laws, crate::proofs::Lines::steps))]
 pub fn transcript(heap: Global, calls: &[u8]) -> Result<String, AllocError>
     ensures lines { IfOk result (λ text. IsTranscript calls.now (string_bytes text)) }
     ensures one { OneTranscript }

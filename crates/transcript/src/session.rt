@@ -4,7 +4,6 @@ ghost use Rattle.desk.specs.Memory.{bytes_asked, estate_of, Stands};
 ghost use Rattle.estate.specs.Changes.{after};
 ghost use Rattle.estate.specs.Estates.{new_estate};
 ghost use Rattle.estate.specs.Limits.{most_served};
-ghost use Rattle.estate.specs.Right.{answered};
 ghost use Rattle.wire.specs.Meaning.{told};
 ghost use Rattle.wire.specs.Reading.{read};
 
@@ -24,9 +23,10 @@ pub(crate) struct Session {
 }
 
 impl Session {
-    ghost use Rattle.transcript.specs.Sessions.{estate_at};
+    ghost use Rattle.transcript.specs.Sessions.{answer_at, estate_at, served};
 
     // One without claims, in which nothing is there.
+    #[tactic(auto, using(crate::proofs::Serving::openings))]
     pub(crate) fn open(heap: Global) -> Result<Session, AllocError>
         ensures { IfOk result (λ s. estate_at s ≡ new_estate) }
     {
@@ -38,8 +38,13 @@ impl Session {
     }
 
     // The answer to a call, which these bytes are or are not.
-    pub(crate) fn answer(&mut self, heap: Global, bytes: &[u8]) -> Result<Answer<Vec<u64>>, AllocError>
-        ensures said { IfOk result (λ a. told (λ v. v.items) a ≡ answered served (estate_at self.old) (read bytes.now)) }
+    #[tactic(auto, using(crate::proofs::Serving::replies))]
+    pub(crate) fn answer(
+        &mut self,
+        heap: Global,
+        bytes: &[u8],
+    ) -> Result<Answer<Vec<u64>>, AllocError>
+        ensures said { IfOk result (λ a. told (λ v. v.items) a ≡ answer_at self.old bytes.now) }
         ensures kept { estate_at self.new ≡ after served (estate_at self.old) (read bytes.now) }
     {
         let length = match call(&mut self.memory, bytes, &mut self.sent) {
