@@ -1,7 +1,7 @@
 // What a program that reads one file is asked on its command line.
 #![tactic(auto)]
 
-use anyhow::{Context, Result, ensure};
+use anyhow::{Context, Result, bail, ensure};
 use std::io::Read;
 use std::rt::{Env, Files};
 use std::{env, fs, io};
@@ -19,10 +19,16 @@ pub fn parse(rt: &(impl Env + Files + Input + AllocGlobal)) -> Result<Command> {
     let Some(word) = words.next() else {
         return Ok(Command::Read(standard_input(rt)?));
     };
-    ensure!(words.next().is_none(), "more than one argument; --help says how this is used");
+    ensure!(
+        words.next().is_none(),
+        "more than one argument; --help says how this is used"
+    );
     match word.as_str() {
         "--help" | "-h" => Ok(Command::Help),
         "-" => Ok(Command::Read(standard_input(rt)?)),
+        option if option.starts_with('-') => {
+            bail!("there is no option {option}; --help says how this is used")
+        }
         path => {
             let bytes = fs::read(rt, path).context(format_args!("{path} cannot be read"))?;
             Ok(Command::Read(bytes))
