@@ -1,14 +1,13 @@
 -- What was printed is read back. Assumes nothing.
-use Rattle.std.proofs.Common.{◌≡◌, ℕ, suc, ◌+◌, ◌/◌, ◌%◌, ◌^◌, ◌<◌, ◌≤◌, true, false, List, [], ◌∷◌, ◌++◌, length, drop, Some, None, Ok, Option, refl, sym, ap, ◌∙◌, arith}
+use Rattle.std.proofs.Common.{◌≡◌, ℕ, suc, ◌+◌, ◌/◌, ◌%◌, ◌^◌, ◌<◌, ◌≤◌, true, false, List, [], ◌∷◌, ◌++◌, length, Some, None, Ok, Option, refl, sym, ap, ◌∙◌, arith}
 use Rattle.std.proofs.lemmas.Bool.Decides.{nat_tests}
 use Rattle.std.proofs.lemmas.Fmt.{decimal_by_steps}
-use Rattle.std.proofs.Math.Seq.{drop-append_seam}
 use Rattle.std.proofs.lemmas.List.{append-nil, append_assoc, length-append}
 use Rattle.std.specs.Prelude.{decimal, codes, nat_lt, ◌==◌}
 use Rattle.wire.specs.Bytes.{Fitting}
 use Rattle.text.specs.Laws.{NumbersBack, DivisionBack}
 use Rattle.text.specs.Printed.{behind}
-use Rattle.text.specs.Read.{is_blank, grown, grows, so_far, closed, numbers_from, head_from}
+use Rattle.text.specs.Read.{is_blank, grown, grows, so_far, closed, with_parts, numbers_from, division_from}
 
 -- a number with its last digit
 digit_grows : (n : ℕ) → n < 2 ^ 64 → (grows (n / 10) (48 + n % 10) ≡ true) × (grown (n / 10) (48 + n % 10) ≡ n)
@@ -37,15 +36,16 @@ module _ {A : Type 0} (read : ℕ → Option ℕ → List ℕ → A) (low : ℕ)
   pub numeral_taken : (n : ℕ) → n < 2 ^ 64 → (at : ℕ) (rest : List ℕ) → low ≤ at → read at None (decimal n ++ rest) ≡ read (at + length (decimal n)) (Some n) rest
   numeral_taken n fits = decimal_by_steps Taken one_taken more_taken n fits fits
 
--- a digit is no blank, and no colon
+-- a digit is no blank
 pub digit_next : (ns : List ℕ) (at : ℕ) (begun : Option ℕ) (b : ℕ) (bs : List ℕ) → 0 ≤ at → grows (so_far begun) b ≡ true → numbers_from at ns begun (b ∷ bs) ≡ numbers_from (at + 1) ns (Some (grown (so_far begun) b)) bs
 unfolding numbers_from
 digit_next ns at begun b bs l g =
     let plain : is_blank b ≡ false = grind (arith, nat_tests) in
     rw (plain, g) refl
 
-pub digit_heads : (at : ℕ) (begun : Option ℕ) (b : ℕ) (bs : List ℕ) → 2 ≤ at → grows (so_far begun) b ≡ true → head_from at begun (b ∷ bs) ≡ head_from (at + 1) (Some (grown (so_far begun) b)) bs
-unfolding head_from
+-- and no colon
+pub digit_heads : (at : ℕ) (begun : Option ℕ) (b : ℕ) (bs : List ℕ) → 2 ≤ at → grows (so_far begun) b ≡ true → division_from at begun (b ∷ bs) ≡ division_from (at + 1) (Some (grown (so_far begun) b)) bs
+unfolding division_from
 digit_heads at begun b bs l g =
     let plain : (b == 58) ≡ false = grind (arith, nat_tests) in
     let zero : (at == 0) ≡ false = grind (arith, nat_tests) in
@@ -68,20 +68,9 @@ numbers_back [] fit = refl
 numbers_back (n ∷ ns) fit =
     numeral_taken (λ k b bs. numbers_from k [] b bs) 0 (digit_next []) n (fit 0) 0 (behind ns) (omega arith) ∙ behind_read ns (λ i. fit (suc i)) (0 + length (decimal n)) [] (Some n)
 
--- the head of a line of shares, and what is left behind it
-module _ (d : ℕ) (rest : List ℕ) (fits : d < 2 ^ 64) where
-  head_read : head_from 0 None (codes "d " ++ decimal d ++ codes ":" ++ rest) ≡ Ok (d, 2 + length (decimal d) + 1)
-  unfolding head_from
-  head_read =
-      ap (head_from 2 None) (append_assoc (decimal d) (codes ":") rest) ∙ numeral_taken head_from 2 digit_heads d fits 2 (codes ":" ++ rest) (omega arith)
-
-  behind_head : drop (2 + length (decimal d) + 1) (codes "d " ++ decimal d ++ codes ":" ++ rest) ≡ rest
-  behind_head =
-      let long : 2 + length (decimal d) + 1 ≡ length (codes "d " ++ decimal d ++ codes ":") = omega (arith, length-append (codes "d " ++ decimal d) (codes ":")) in
-      rw long (drop-append_seam (codes "d " ++ decimal d ++ codes ":") rest)
-
 pub division_back : DivisionBack
+unfolding division_from
 division_back d xs fit =
-    let fits : Fitting xs = λ i. fit (suc i) in
-    let read : numbers_from (2 + length (decimal d) + 1) [] None (behind xs) ≡ Ok xs = behind_read xs fits (2 + length (decimal d) + 1) [] None in
-    rw (head_read d (behind xs) (fit 0), behind_head d (behind xs) (fit 0), read) refl
+    let digits = numeral_taken division_from 2 digit_heads d (fit 0) 2 (codes ":" ++ behind xs) (omega arith) in
+    let read = behind_read xs (λ i. fit (suc i)) (2 + length (decimal d) + 1) [] None in
+    ap (division_from 2 None) (append_assoc (decimal d) (codes ":") (behind xs)) ∙ (digits ∙ ap (with_parts d) read)

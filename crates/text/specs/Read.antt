@@ -1,5 +1,5 @@
 -- What a line is as numbers, and as shares. Assumes nothing.
-use Rattle.std.specs.Prelude.{◌≡◌, ℕ, ◌+◌, ◌-◌, ◌*◌, ◌^◌, Bool, ◌&&◌, ◌||◌, if◌then◌else◌, List, [], ◌∷◌, ◌++◌, drop, Some, None, Ok, Err, Option, Result, is_some, unwrap_or, nat_lt, nat_le, ◌==◌}
+use Rattle.std.specs.Prelude.{◌≡◌, ℕ, ◌≤◌, ◌+◌, ◌-◌, ◌*◌, ◌^◌, Bool, ◌&&◌, ◌||◌, if◌then◌else◌, List, [], ◌∷◌, ◌++◌, length, drop, Some, None, Ok, Err, Option, Result, is_some, unwrap_or, nat_lt, nat_le, ◌==◌}
 use Rattle.text.specs.declared.reading.Division.{Division}
 use Rattle.text.specs.declared.reading.ReadError.{ReadError}
 use Rattle.text.specs.declared.reading.ReadError.TheVariants.{Misfit, OutOfMemory}
@@ -39,33 +39,29 @@ numbers_from at ns begun (b ∷ bs) =
 abbrev pub numbers_of : List ℕ → Reading (List ℕ)
 numbers_of line = numbers_from 0 [] None line
 
--- The head of a line of shares, `d 6:`: the letter d, a space, and digits. What a byte makes of it at a place, and whether it
--- fits there.
+-- with the parts of a cent that they are in
+abbrev pub with_parts : ℕ → Reading (List ℕ) → Reading (ℕ × List ℕ)
+with_parts d (Ok xs) = Ok (d, xs)
+with_parts d (Err p) = Err p
+
+-- The head of a line of shares, `d 6:`: the letter d, a space, and digits. What a byte makes of the number at a place, and
+-- whether it fits there.
 abbrev pub headed : ℕ → Option ℕ → ℕ → Option ℕ
 headed at begun b = if nat_lt at 2 then begun else Some (grown (so_far begun) b)
 
 abbrev pub heads : ℕ → Option ℕ → ℕ → Bool
 heads at begun b = if at == 0 then b == 100 else (if at == 1 then b == 32 else grows (so_far begun) b)
 
--- From a place on: how many parts a cent has, and the place behind the colon.
-unfoldable pub head_from : ℕ → Option ℕ → List ℕ → Reading (ℕ × ℕ)
-head_from at begun [] = Err at
-head_from at begun (b ∷ bs) =
-    if b == 58 && is_some begun then Ok (so_far begun, at + 1)
-    else (if heads at begun b then head_from (at + 1) (headed at begun b) bs
+-- The line, from a place in its head on: behind the colon are the shares.
+unfoldable pub division_from : ℕ → Option ℕ → List ℕ → Reading (ℕ × List ℕ)
+division_from at begun [] = Err at
+division_from at begun (b ∷ bs) =
+    if b == 58 && is_some begun then with_parts (so_far begun) (numbers_from (at + 1) [] None bs)
+    else (if heads at begun b then division_from (at + 1) (headed at begun b) bs
     else Err at)
 
--- and the shares behind it
-abbrev pub with_parts : ℕ → Reading (List ℕ) → Reading (ℕ × List ℕ)
-with_parts d (Ok xs) = Ok (d, xs)
-with_parts d (Err p) = Err p
-
-abbrev pub shares_behind : List ℕ → Reading (ℕ × ℕ) → Reading (ℕ × List ℕ)
-shares_behind line (Ok h) = with_parts h.0 (numbers_from h.1 [] None (drop h.1 line))
-shares_behind line (Err p) = Err p
-
 abbrev pub division_of : List ℕ → Reading (ℕ × List ℕ)
-division_of line = shares_behind line (head_from 0 None line)
+division_of line = division_from 0 None line
 
 abbrev pub in_parts : Division → ℕ × List ℕ
 in_parts v = (v.parts, v.shares.items)
@@ -75,3 +71,11 @@ abbrev pub IsRead : {A V : Type 0} → (V → A) → Reading A → Result V Read
 IsRead means r (Ok v) = r ≡ Ok (means v)
 IsRead means r (Err (Misfit p)) = r ≡ Err p
 IsRead means r (Err OutOfMemory) = Unit {0}
+
+-- What reading the head of a line gives: the parts of a cent, and the place from which on the shares are read; or where the
+-- line ceases to be one of shares.
+abbrev pub IsHead : List ℕ → Result (ℕ × ℕ) ReadError → Type 0
+IsHead line (Ok h) =
+    (h.1 ≤ length line) × (division_of line ≡ with_parts h.0 (numbers_from h.1 [] None (drop h.1 line)))
+IsHead line (Err (Misfit p)) = division_of line ≡ Err p
+IsHead line (Err OutOfMemory) = ⊥

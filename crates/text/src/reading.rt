@@ -1,8 +1,8 @@
 // Lines that are read: numbers, and shares as they are printed.
 ghost use Rattle.std.specs.Prelude.{◌≡◌, ◌==◌, ◌&&◌, ◌≤◌, IfOk, is_some, SomeIff, IsTrue, None, [], drop, length};
 ghost use Rattle.text.specs.Laws.{NumbersBack, DivisionBack, MisfitsFirst};
-ghost use Rattle.text.specs.Read.{closed, division_of, grown, grows, headed, heads, head_from, is_blank, numbers_from, numbers_of, so_far};
-ghost use Rattle.text.specs.Read.{in_parts, IsRead};
+ghost use Rattle.text.specs.Read.{closed, division_of, grown, grows, headed, heads, is_blank, numbers_from, numbers_of, so_far};
+ghost use Rattle.text.specs.Read.{in_parts, IsHead, IsRead};
 ghost use Rattle.text.specs.declared.reading.ReadError.TheVariants.{OutOfMemory};
 
 use std::alloc::{AllocError, Global};
@@ -88,8 +88,7 @@ fn close(whole: &mut Vec<u64>, begun: Option<u64>) -> Result<(), AllocError>
 // How many parts a cent has by the head of a line of shares, `d 6:`, and where that ends.
 #[tactic(auto, using(crate::proofs::Lines::head_next, crate::proofs::Lines::head_end))]
 fn head(line: &[u8]) -> Result<(u64, usize), ReadError>
-    ensures read { IsRead (λ h. h) (head_from 0 None line.now) result }
-    ensures within { IfOk result (λ h. h.1 ≤ length line.now) }
+    ensures { IsHead line.now result }
 {
     let mut begun = None;
     for (at, byte) in line.iter().enumerate() {
