@@ -1,6 +1,6 @@
 -- The first feed of a text, and texts without one. Assumes nothing.
-use Rattle.std.proofs.Common.{◌≡◌, ℕ, ◌+◌, ◌/◌, ◌%◌, ◌^◌, ◌<◌, ◌≤◌, true, false, List, [], ◌∷◌, ◌++◌, length, take, drop, suc, refl, sym, ap, ◌∙◌, arith}
-use Rattle.std.proofs.Math.Seq.{drop-append_seam, take-append_seam}
+use Rattle.std.proofs.Common.{◌≡◌, ℕ, ◌+◌, ◌%◌, ◌^◌, ◌<◌, ◌≤◌, false, List, [], ◌∷◌, ◌++◌, length, take, drop, suc, refl, ap, ◌∙◌, arith}
+use Rattle.std.proofs.Math.Seq.{drop-append-add, take-append_seam}
 use Rattle.std.proofs.lemmas.Bool.Decides.{nat_tests}
 use Rattle.std.proofs.lemmas.Fmt.{decimal_by_steps}
 use Rattle.std.proofs.lemmas.List.{at_drop_more, drop_all, append_assoc, length-append}
@@ -33,11 +33,11 @@ one_line-append xs ys x y rest =
 one_line-decimal : (n : ℕ) → n < 2 ^ 64 → OneLine (decimal n)
 one_line-decimal n fits =
     decimal_by_steps
-        (λ _ ds. OneLine ds)
-        (λ k less. one_byte (48 + k) (grind (arith, nat_tests)))
-        (λ k ds more front. one_line-append ds ((48 + k % 10) ∷ []) front (one_byte (48 + k % 10) (grind (arith, nat_tests))))
-        n
-        fits
+    (λ _ ds. OneLine ds)
+    (λ k less. one_byte (48 + k) (grind (arith, nat_tests)))
+    (λ k ds more front. one_line-append ds ((48 + k % 10) ∷ []) front (one_byte (48 + k % 10) (grind (arith, nat_tests))))
+    n
+    fits
 
 one_line-behind : (ns : List ℕ) → Fitting ns → OneLine (behind ns)
 one_line-behind [] fit = λ rest. omega arith
@@ -49,24 +49,15 @@ one_line-spaced [] fit = λ rest. omega arith
 one_line-spaced (n ∷ ns) fit =
     one_line-append (decimal n) (behind ns) (one_line-decimal n (fit 0)) (one_line-behind ns (λ i. fit (suc i)))
 
-pub one_line-parts : (d : ℕ) (xs : List ℕ) → d < 2 ^ 64 → Fitting xs → OneLine (answer_text (parts d xs))
-one_line-parts d xs fits fit =
-    let letter = one_line-append (100 ∷ []) (32 ∷ []) (one_byte 100 refl) (one_byte 32 refl) in
-    let number = one_line-append (codes "d ") (decimal d) letter (one_line-decimal d fits) in
-    let head = one_line-append (codes "d " ++ decimal d) (codes ":") number (one_byte 58 refl) in
-    one_line-append (codes "d " ++ decimal d ++ codes ":") (behind xs) head (one_line-behind xs fit)
+pub one_line-parts : (d : ℕ) (xs : List ℕ) → Fitting (d ∷ xs) → OneLine (answer_text (parts d xs))
+one_line-parts d xs fit =
+    let head = one_line-append (codes "d " ++ decimal d) (codes ":") (one_line-append (codes "d ") (decimal d) (λ rest. omega arith) (one_line-decimal d (fit 0))) (one_byte 58 refl) in
+    one_line-append (codes "d " ++ decimal d ++ codes ":") (behind xs) head (one_line-behind xs (λ i. fit (suc i)))
 
 -- so with a feed behind them they are the first line
-module _ (xs rest : List ℕ) (one : OneLine xs) where
-  long : feed_at (xs ++ (10 ∷ rest)) ≡ length xs
-  long = omega (arith, one (10 ∷ rest))
-
-  pub first_line-printed : first_line (xs ++ (10 ∷ rest)) ≡ xs
-  first_line-printed =
-      ap (λ n. take n (xs ++ (10 ∷ rest))) long ∙ take-append_seam xs (10 ∷ rest)
-
-  pub rest_of-printed : rest_of (xs ++ (10 ∷ rest)) ≡ rest
-  rest_of-printed =
-      let whole = append_assoc xs (10 ∷ []) rest in
-      let place : feed_at (xs ++ (10 ∷ rest)) + 1 ≡ length (xs ++ (10 ∷ [])) = omega (arith, long, length-append xs (10 ∷ [])) in
-      ap (λ n. drop n (xs ++ (10 ∷ rest))) place ∙ (ap (drop (length (xs ++ (10 ∷ [])))) (sym whole) ∙ drop-append_seam (xs ++ (10 ∷ [])) rest)
+pub in_lines : (xs rest : List ℕ) → OneLine xs → (first_line (xs ++ (10 ∷ rest)) ≡ xs) × (rest_of (xs ++ (10 ∷ rest)) ≡ rest)
+in_lines xs rest one =
+    let long : feed_at (xs ++ (10 ∷ rest)) ≡ length xs = omega (arith, one (10 ∷ rest)) in (
+      ap (λ n. take n (xs ++ (10 ∷ rest))) long ∙ take-append_seam xs (10 ∷ rest),
+      ap (λ n. drop (n + 1) (xs ++ (10 ∷ rest))) long ∙ drop-append-add xs (10 ∷ rest) 1,
+    )

@@ -1,7 +1,8 @@
 -- What an audit finds. Assumes nothing.
-use Rattle.std.proofs.Common.{◌≡◌, ℕ, ◌<◌, ◌≤◌, Bool, true, false, List, [], ◌∷◌, ◌++◌, length, Ok, Err, refl, sym, ap, ◌∙◌, arith}
+use Rattle.std.proofs.Common.{◌≡◌, ℕ, ◌≤◌, Bool, true, false, List, [], ◌∷◌, ◌++◌, length, Ok, Err, refl, sym, ap, ◌∙◌, arith}
 use Rattle.std.proofs.lemmas.Bool.Decides.{nat_tests}
-use Rattle.std.specs.Prelude.{nat_lt, ◌<◌, ◌^◌}
+use Rattle.std.specs.Prelude.{nat_lt}
+use Rattle.std.specs.Result.{result_unwrap_or}
 use Rattle.estate.specs.Answers.{parts}
 use Rattle.estate.specs.Closed.{denominator, division}
 use Rattle.estate.specs.Estates.{Estate, counted, divided, Within}
@@ -13,11 +14,11 @@ use Rattle.wire.specs.Bytes.{Fitting}
 use Rattle.wire.proofs.Bytes.{fitting_more}
 use Rattle.text.proofs.Back.{numbers_back, division_back}
 use Rattle.text.proofs.Places.{one_value}
-use Rattle.auditing.proofs.Feeds.{OneLine, one_line-spaced, one_line-parts, first_line-printed, rest_of-printed}
+use Rattle.auditing.proofs.Feeds.{one_line-spaced, one_line-parts, in_lines}
 use Rattle.shares.specs.Pairs.{Answered, Verdict}
 use Rattle.shares.proofs.EachTwo.{accepts_divisions, one_verdict, only_divisions as only_divided}
 use Rattle.text.specs.Read.{Reading, numbers_of, division_of}
-use Rattle.auditing.specs.Audits.{Checked, HasClaims, HasMore, HasShares, IsAudited}
+use Rattle.auditing.specs.Audits.{Checked, HasMore, IsAudited}
 use Rattle.text.specs.Printed.{spaced, answer_text}
 use Rattle.auditing.specs.Laws.{printed, OneFinding, DesksPass, OnlyDivisions}
 use Rattle.auditing.specs.Texts.{first_line, rest_of, is_space}
@@ -33,27 +34,18 @@ abbrev judged : Answered → Finding
 judged (Ok _) = Right
 judged (Err fault) = Wrong fault
 
--- The same as `IsAudited`, by what is read: of shares and what is behind them, of what is behind the claims, and of a text.
-abbrev AtEnd : Bool → ℕ → List ℕ → List ℕ → Finding → Type 0
-AtEnd true d cs xs f = (r : Answered) × Verdict d cs xs r × (f ≡ judged r)
-AtEnd false d cs xs f = f ≡ More
+-- The same as `IsAudited`, by what is read of the claims, whether they are too many, what is read of the shares, and whether
+-- nothing is behind them.
+abbrev Found : Reading (List ℕ) → Bool → Reading (ℕ × List ℕ) → Bool → Finding → Type 0
+Found (Err p) many shares ends f = f ≡ Claims p
+Found (Ok cs) true shares ends f = f ≡ TooMany
+Found (Ok cs) false (Err p) ends f = f ≡ Shares p
+Found (Ok cs) false (Ok h) false f = f ≡ More
+Found (Ok cs) false (Ok h) true f = (r : Answered) × Verdict h.0 cs h.1 r × (f ≡ judged r)
 
-abbrev InShares : Bool → List ℕ → Reading (ℕ × List ℕ) → Finding → Type 0
-InShares ends cs (Ok h) f = AtEnd ends h.0 cs h.1 f
-InShares ends cs (Err p) f = f ≡ Shares p
-
-abbrev Behind : Bool → List ℕ → Bool → Reading (ℕ × List ℕ) → Finding → Type 0
-Behind true cs ends shares f = f ≡ TooMany
-Behind false cs ends shares f = InShares ends cs shares f
-
-abbrev InClaims : Reading (List ℕ) → Bool → Reading (ℕ × List ℕ) → Finding → Type 0
-InClaims (Ok cs) ends shares f = Behind (nat_lt most_served (length cs)) cs ends shares f
-InClaims (Err p) ends shares f = f ≡ Claims p
-
--- what is found in a text
 abbrev InText : List ℕ → Finding → Type 0
 InText text f =
-    InClaims (numbers_of (first_line text)) (is_space (rest_of (rest_of text))) (division_of (first_line (rest_of text))) f
+    Found (numbers_of (first_line text)) (nat_lt most_served (length (result_unwrap_or (numbers_of (first_line text)) []))) (division_of (first_line (rest_of text))) (is_space (rest_of (rest_of text))) f
 
 in_text : (text : List ℕ) (f : Finding) → IsAudited text f → InText text f
 in_text text (Claims p) e = rw e refl
@@ -68,22 +60,19 @@ in_text text (Wrong fault) c =
 in_text text Right c =
     rw (c.has_claims.read, served c.claims c.has_claims.few, c.has_shares.read, c.ends) (Ok tt, c.verdict, refl)
 
-one_in_claims : (claims : Reading (List ℕ)) (ends : Bool) (shares : Reading (ℕ × List ℕ)) (f g : Finding) → InClaims claims ends shares f → InClaims claims ends shares g → f ≡ g
-one_in_claims (Err p) ends shares f g this that = this ∙ sym that
-one_in_claims (Ok cs) ends shares f g this that = behind (nat_lt most_served (length cs)) shares ends this that
-  where
-    behind : (b : Bool) (shares : Reading (ℕ × List ℕ)) (ends : Bool) → Behind b cs ends shares f → Behind b cs ends shares g → f ≡ g
-    behind true shares ends this that = this ∙ sym that
-    behind false (Err p) ends this that = this ∙ sym that
-    behind false (Ok h) false this that = this ∙ sym that
-    behind false (Ok h) true (r, v, this) (s, w, that) =
-        this ∙ (ap judged (one_verdict h.0 cs h.1 r s v w) ∙ sym that)
+one_found : (claims : Reading (List ℕ)) (many : Bool) (shares : Reading (ℕ × List ℕ)) (ends : Bool) (f g : Finding) → Found claims many shares ends f → Found claims many shares ends g → f ≡ g
+one_found (Err p) many shares ends f g this that = this ∙ sym that
+one_found (Ok cs) true shares ends f g this that = this ∙ sym that
+one_found (Ok cs) false (Err p) ends f g this that = this ∙ sym that
+one_found (Ok cs) false (Ok h) false f g this that = this ∙ sym that
+one_found (Ok cs) false (Ok h) true f g (r, v, this) (s, w, that) =
+    this ∙ (ap judged (one_verdict h.0 cs h.1 r s v w) ∙ sym that)
 
 pub one_finding : OneFinding
-one_finding text f g this that = one_in_claims (numbers_of (first_line text)) (is_space (rest_of (rest_of text))) (division_of (first_line (rest_of text))) f g (in_text text f this) (in_text text g that)
+one_finding text f g this that = one_found _ _ _ _ f g (in_text text f this) (in_text text g that)
 
 -- what was printed of an estate within the limits
-module _ (e : Estate) (within : Within e) (few : length (counted e) ≤ most_served) where
+module _ (e : Estate) (within : Within e) where
   abbrev d : ℕ
   d = denominator (divided e) (counted e)
 
@@ -93,38 +82,23 @@ module _ (e : Estate) (within : Within e) (few : length (counted e) ≤ most_ser
   claims_fit : Fitting (counted e)
   claims_fit i = omega (arith, claim_small e within i)
 
-  parts_fit : d < 2 ^ 64
-  parts_fit = omega (arith, parts_small e within)
+  shares_fit : Fitting (d ∷ xs)
+  shares_fit =
+      fitting_more d xs (omega (arith, parts_small e within)) (λ i. omega (arith, share_small e within i))
 
-  shares_fit : Fitting xs
-  shares_fit i = omega (arith, share_small e within i)
-
-  claims_line : OneLine (spaced (counted e))
-  claims_line = one_line-spaced (counted e) claims_fit
-
-  shares_line : OneLine (answer_text (parts d xs))
-  shares_line = one_line-parts d xs parts_fit shares_fit
-
-  abbrev shares_text : List ℕ
-  shares_text = answer_text (parts d xs) ++ (10 ∷ [])
-
-  passed : (f : Finding) → AtEnd true d (counted e) xs f → f ≡ Right
+  passed : (f : Finding) → Found (Ok (counted e)) false (Ok (d, xs)) true f → f ≡ Right
   passed f (r, v, is) =
       is ∙ ap judged (accepts_divisions d (divided e) (counted e) xs r v (closed_divides (divided e) (counted e) (omega arith)).1)
 
-  passes : (f : Finding) → InText (spaced (counted e) ++ (10 ∷ shares_text)) f → f ≡ Right
-  passes f found =
-      let first = first_line-printed (spaced (counted e)) shares_text claims_line in
-      let rest = rest_of-printed (spaced (counted e)) shares_text claims_line in
-      let second = first_line-printed (answer_text (parts d xs)) [] shares_line in
-      let end = rest_of-printed (answer_text (parts d xs)) [] shares_line in
-      let claims = numbers_back (counted e) claims_fit in
-      let shares = division_back d xs (fitting_more d xs parts_fit shares_fit) in
-      passed f (rw (first, rest, second, end, claims, served (counted e) few, shares) at found)
+  pub printed_passes : (f : Finding) → length (counted e) ≤ most_served → InText (printed e) f → f ≡ Right
+  unfolding says
+  printed_passes f few found =
+      let (first, rest) = in_lines (spaced (counted e)) (answer_text (parts d xs) ++ (10 ∷ [])) (one_line-spaced (counted e) claims_fit) in
+      let (second, end) = in_lines (answer_text (parts d xs)) [] (one_line-parts d xs shares_fit) in
+      passed f (rw (first, rest, second, end, numbers_back (counted e) claims_fit, served (counted e) few, division_back d xs shares_fit) at found)
 
 pub desks_pass : DesksPass
-unfolding says
-desks_pass e f within few found = passes e within few f (in_text (printed e) f found)
+desks_pass e f within few found = printed_passes e within f few (in_text (printed e) f found)
 
 pub only_divisions : OnlyDivisions
 unfolding OnlyDivisions

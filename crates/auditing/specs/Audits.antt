@@ -1,5 +1,5 @@
 -- What an audit of a text finds, and what is printed of it. Assumes nothing.
-use Rattle.std.specs.Prelude.{◌≡◌, ℕ, ◌+◌, ◌<◌, ◌≤◌, true, false, List, ◌++◌, length, Ok, Err, decimal, codes}
+use Rattle.std.specs.Prelude.{◌≡◌, ℕ, ◌<◌, ◌≤◌, true, false, List, ◌++◌, length, Ok, Err, decimal, codes}
 use Rattle.estate.specs.Limits.{most_served}
 use Rattle.shares.specs.Pairs.{fault_text, Answered, Verdict}
 use Rattle.shares.specs.declared.pairs.Fault.{Fault}

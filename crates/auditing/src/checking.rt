@@ -38,11 +38,17 @@ impl fmt::Display for Finding {
             }
             Finding::Wrong(fault) => write!(f, "{fault}"),
             Finding::Claims(at) => {
-                write!(f, "line 1, from byte {at} on: claims are written as 100 200 300")
+                write!(
+                    f,
+                    "line 1, from byte {at} on: claims are written as 100 200 300"
+                )
             }
             Finding::TooMany => write!(f, "line 1: more than {MOST_SERVED} claims"),
             Finding::Shares(at) => {
-                write!(f, "line 2, from byte {at} on: shares are written as d 6: 200 200 200")
+                write!(
+                    f,
+                    "line 2, from byte {at} on: shares are written as d 6: 200 200 200"
+                )
             }
             Finding::More => write!(f, "line 3: nothing may stand behind the shares"),
         }
