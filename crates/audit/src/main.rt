@@ -16,7 +16,8 @@ them, as answer prints them.
     d 4: 200 300 300
 
 Prints `right`, or the first two, by their places from 0, that do not divide as they should, as `0 and 2`,
-or what is wrong with the lines. The status is 0 if the shares are right, and otherwise 1.";
+or what is wrong with the lines. The status is 0 if the shares are right, and otherwise 1. What was there is
+not asked for: shares that are right divide what they come to.";
 
 // Prints what an audit finds of the lines that it is asked about.
 fn run(rt: &(impl Env + Files + Input + Print + AllocGlobal)) -> Result<ExitCode> {
