@@ -2,7 +2,7 @@
 #![tactic(auto)]
 
 use anyhow::Result;
-use command_line::{Command, parse};
+use command_line::{Command, read_command};
 use std::rt::{Env, Files};
 use transcript::transcript;
 
@@ -22,7 +22,7 @@ is about, as `refused 5 at 0`.";
 
 // Prints the answers to the calls that it is asked about.
 fn run(rt: &(impl Env + Files + Input + Print + AllocGlobal)) -> Result<()> {
-    match parse(rt)? {
+    match read_command(rt)? {
         Command::Read(calls) => print!(rt; "{}", transcript(rt.alloc(), &calls)?)?,
         Command::Help => println!(rt; "{USAGE}")?,
     }

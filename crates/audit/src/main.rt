@@ -3,14 +3,15 @@
 
 use anyhow::Result;
 use auditing::{Finding, audit};
-use command_line::{Command, parse};
+use command_line::{Command, read_command};
 use std::process::ExitCode;
 use std::rt::{Env, Files};
 
 const USAGE: &str = "usage: audit [FILE]
 
-Reads two lines from FILE, or from standard input: claims, and the shares that divide an estate among
-them, as answer prints them.
+Reads two lines from FILE, or from standard input: claims, of up to 64 creditors, and the shares that divide
+an estate among them, as answer prints them. Spaces, tabs and returns may stand between numbers and at the
+end of a line.
 
     100 200 300
     d 4: 200 300 300
@@ -21,7 +22,7 @@ not asked for: shares that are right divide what they come to.";
 
 // Prints what an audit finds of the lines that it is asked about.
 fn run(rt: &(impl Env + Files + Input + Print + AllocGlobal)) -> Result<ExitCode> {
-    let text = match parse(rt)? {
+    let text = match read_command(rt)? {
         Command::Read(text) => text,
         Command::Help => {
             println!(rt; "{USAGE}")?;

@@ -1,14 +1,15 @@
 -- The first feed of a text, and texts without one. Assumes nothing.
-use Rattle.std.proofs.Common.{◌≡◌, ℕ, ◌+◌, ◌%◌, ◌^◌, ◌<◌, ◌≤◌, false, List, [], ◌∷◌, ◌++◌, length, take, drop, suc, refl, ap, ◌∙◌, arith}
+use Rattle.std.proofs.Common.{◌≡◌, ℕ, ◌+◌, ◌%◌, ◌^◌, ◌<◌, ◌≤◌, false, List, [], ◌∷◌, ◌++◌, length, take, drop, suc, refl, sym, ap, ◌∙◌, arith}
 use Rattle.std.proofs.Math.Seq.{drop-append-add, take-append_seam}
 use Rattle.std.proofs.lemmas.Bool.Decides.{nat_tests}
 use Rattle.std.proofs.lemmas.Fmt.{decimal_by_steps}
-use Rattle.std.proofs.lemmas.List.{at_drop_more, drop_all, append_assoc, length-append}
-use Rattle.std.specs.Prelude.{slice_index, ◌==◌, cond, not, decimal, codes}
+use Rattle.std.proofs.lemmas.List.{append-nil, at_drop_more, drop_all, append_assoc, length-append}
+use Rattle.std.specs.Prelude.{slice_index, ◌==◌, cond, not, decimal, codes, if◌then◌else◌, Some, None}
 use Rattle.estate.specs.Answers.{parts}
 use Rattle.wire.specs.Bytes.{Fitting}
-use Rattle.text.specs.Printed.{behind, spaced, answer_text}
-use Rattle.auditing.specs.Texts.{feed_at, first_line, rest_of}
+use Rattle.text.specs.Printed.{as_line, behind, spaced, answer_text}
+use Rattle.text.specs.Read.{is_blank}
+use Rattle.auditing.specs.Texts.{blank_lines, feed_at, first_line, rest_of}
 
 -- that of what is left at a place
 pub feed_next : (at : ℕ) (text : List ℕ) → at < length text → feed_at (drop at text) ≡ cond (not (slice_index text at == 10)) (1 + feed_at (drop (at + 1) text)) 0
@@ -55,9 +56,27 @@ one_line-parts d xs fit =
     one_line-append (codes "d " ++ decimal d ++ codes ":") (behind xs) head (one_line-behind xs (λ i. fit (suc i)))
 
 -- so with a feed behind them they are the first line
-pub in_lines : (xs rest : List ℕ) → OneLine xs → (first_line (xs ++ (10 ∷ rest)) ≡ xs) × (rest_of (xs ++ (10 ∷ rest)) ≡ rest)
+pub in_lines : (xs rest : List ℕ) → OneLine xs → (first_line (as_line xs ++ rest) ≡ xs) × (rest_of (as_line xs ++ rest) ≡ rest)
 in_lines xs rest one =
+    let whole = append_assoc xs (10 ∷ []) rest in
     let long : feed_at (xs ++ (10 ∷ rest)) ≡ length xs = omega (arith, one (10 ∷ rest)) in (
-      ap (λ n. take n (xs ++ (10 ∷ rest))) long ∙ take-append_seam xs (10 ∷ rest),
-      ap (λ n. drop (n + 1) (xs ++ (10 ∷ rest))) long ∙ drop-append-add xs (10 ∷ rest) 1,
+      ap first_line whole ∙ (ap (λ n. take n (xs ++ (10 ∷ rest))) long ∙ take-append_seam xs (10 ∷ rest)),
+      ap rest_of whole ∙ (ap (λ n. drop (n + 1) (xs ++ (10 ∷ rest))) long ∙ drop-append-add xs (10 ∷ rest) 1),
     )
+
+pub last_line : (xs : List ℕ) → OneLine xs → (first_line (as_line xs) ≡ xs) × (rest_of (as_line xs) ≡ [])
+last_line xs one =
+    let (first, rest) = in_lines xs [] one in
+    let whole = sym (append-nil (as_line xs)) in
+    (ap first_line whole ∙ first, ap rest_of whole ∙ rest)
+
+-- blank lines are gone through byte by byte
+pub blank_next : (at n : ℕ) (text : List ℕ) → at < length text → blank_lines n (drop at text) ≡ (if is_blank (slice_index text at) then blank_lines n (drop (at + 1) text) else (if slice_index text at == 10 then blank_lines (n + 1) (drop (at + 1) text) else Some n))
+unfolding blank_lines
+blank_next at n text less = at_drop_more (blank_lines n) text at 0 less
+
+pub blank_end : (at n : ℕ) (text : List ℕ) → length text ≤ at → blank_lines n (drop at text) ≡ None
+unfolding blank_lines
+blank_end at n text more = rw (drop_all at text more) refl
+
+pub ruleset blanks = (blank_next, blank_end)

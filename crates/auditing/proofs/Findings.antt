@@ -1,5 +1,5 @@
 -- What an audit finds. Assumes nothing.
-use Rattle.std.proofs.Common.{◌≡◌, ℕ, ◌≤◌, Bool, true, false, List, [], ◌∷◌, ◌++◌, length, Ok, Err, refl, sym, ap, ◌∙◌, arith}
+use Rattle.std.proofs.Common.{◌≡◌, ℕ, ◌+◌, ◌≤◌, Bool, true, false, List, [], ◌∷◌, ◌++◌, length, Some, None, Ok, Err, Option, refl, sym, ap, ◌∙◌, arith}
 use Rattle.std.proofs.lemmas.Bool.Decides.{nat_tests}
 use Rattle.std.specs.Prelude.{nat_lt}
 use Rattle.std.specs.Result.{result_unwrap_or}
@@ -12,18 +12,18 @@ use Rattle.estate.proofs.Limited.{claim_small, parts_small, share_small}
 use Rattle.estate.specs.Right.{says}
 use Rattle.wire.specs.Bytes.{Fitting}
 use Rattle.wire.proofs.Bytes.{fitting_more}
-use Rattle.text.proofs.Back.{numbers_back, division_back}
+use Rattle.text.proofs.Back.{numbers_back, shares_back}
 use Rattle.text.proofs.Places.{one_value}
-use Rattle.auditing.proofs.Feeds.{one_line-spaced, one_line-parts, in_lines}
+use Rattle.auditing.proofs.Feeds.{one_line-spaced, one_line-parts, in_lines, last_line}
 use Rattle.shares.specs.Pairs.{Answered, Verdict}
 use Rattle.shares.proofs.EachTwo.{accepts_divisions, one_verdict, only_divisions as only_divided}
-use Rattle.text.specs.Read.{Reading, numbers_of, division_of}
-use Rattle.auditing.specs.Audits.{Checked, HasMore, IsAudited}
-use Rattle.text.specs.Printed.{spaced, answer_text}
+use Rattle.text.specs.Read.{Reading, numbers_of, shares_of}
+use Rattle.auditing.specs.Audits.{blank_behind, Checked, HasMore, IsAudited}
+use Rattle.text.specs.Printed.{as_line, spaced, answer_text}
 use Rattle.auditing.specs.Laws.{printed, OneFinding, DesksPass, OnlyDivisions}
-use Rattle.auditing.specs.Texts.{first_line, rest_of, is_space}
+use Rattle.auditing.specs.Texts.{blank_lines, first_line, rest_of}
 use Rattle.auditing.specs.declared.checking.Finding.{Finding}
-use Rattle.auditing.specs.declared.checking.Finding.TheVariants.{Right, Wrong, Claims, TooMany, Shares, More}
+use Rattle.auditing.specs.declared.checking.Finding.TheVariants.{Right, Wrong, ClaimsMisfit, TooMany, SharesMisfit, Line}
 
 -- as many claims as are served are not more
 served : (cs : List ℕ) → length cs ≤ most_served → nat_lt most_served (length cs) ≡ false
@@ -36,36 +36,36 @@ judged (Err fault) = Wrong fault
 
 -- The same as `IsAudited`, by what is read of the claims, whether they are too many, what is read of the shares, and whether
 -- nothing is behind them.
-abbrev Found : Reading (List ℕ) → Bool → Reading (ℕ × List ℕ) → Bool → Finding → Type 0
-Found (Err p) many shares ends f = f ≡ Claims p
+abbrev Found : Reading (List ℕ) → Bool → Reading (ℕ × List ℕ) → Option ℕ → Finding → Type 0
+Found (Err p) many shares ends f = f ≡ ClaimsMisfit p
 Found (Ok cs) true shares ends f = f ≡ TooMany
-Found (Ok cs) false (Err p) ends f = f ≡ Shares p
-Found (Ok cs) false (Ok h) false f = f ≡ More
-Found (Ok cs) false (Ok h) true f = (r : Answered) × Verdict h.0 cs h.1 r × (f ≡ judged r)
+Found (Ok cs) false (Err p) ends f = f ≡ SharesMisfit p
+Found (Ok cs) false (Ok h) (Some n) f = f ≡ Line (n + 3)
+Found (Ok cs) false (Ok h) None f = (r : Answered) × Verdict h.0 cs h.1 r × (f ≡ judged r)
 
 abbrev InText : List ℕ → Finding → Type 0
 InText text f =
-    Found (numbers_of (first_line text)) (nat_lt most_served (length (result_unwrap_or (numbers_of (first_line text)) []))) (division_of (first_line (rest_of text))) (is_space (rest_of (rest_of text))) f
+    Found (numbers_of (first_line text)) (nat_lt most_served (length (result_unwrap_or (numbers_of (first_line text)) []))) (shares_of (first_line (rest_of text))) (blank_behind text) f
 
 in_text : (text : List ℕ) (f : Finding) → IsAudited text f → InText text f
-in_text text (Claims p) e = rw e refl
+in_text text (ClaimsMisfit p) e = rw e refl
 in_text text TooMany (cs, e, more) =
     let above : nat_lt most_served (length cs) ≡ true = grind (arith, nat_tests) in
     rw (e, above) refl
-in_text text (Shares p) (cs, claims, e) = rw (claims.read, served cs claims.few, e) refl
-in_text text More m =
-    rw (m.has_claims.read, served m.claims m.has_claims.few, m.has_shares.read, m.more) refl
+in_text text (SharesMisfit p) (cs, claims, e) = rw (claims.read, served cs claims.few, e) refl
+in_text text (Line n) (k, m, line) =
+    rw (m.has_claims.read, served m.claims m.has_claims.few, m.has_shares.read, m.more) (ap Line line)
 in_text text (Wrong fault) c =
     rw (c.has_claims.read, served c.claims c.has_claims.few, c.has_shares.read, c.ends) (Err fault, c.verdict, refl)
 in_text text Right c =
     rw (c.has_claims.read, served c.claims c.has_claims.few, c.has_shares.read, c.ends) (Ok tt, c.verdict, refl)
 
-one_found : (claims : Reading (List ℕ)) (many : Bool) (shares : Reading (ℕ × List ℕ)) (ends : Bool) (f g : Finding) → Found claims many shares ends f → Found claims many shares ends g → f ≡ g
+one_found : (claims : Reading (List ℕ)) (many : Bool) (shares : Reading (ℕ × List ℕ)) (ends : Option ℕ) (f g : Finding) → Found claims many shares ends f → Found claims many shares ends g → f ≡ g
 one_found (Err p) many shares ends f g this that = this ∙ sym that
 one_found (Ok cs) true shares ends f g this that = this ∙ sym that
 one_found (Ok cs) false (Err p) ends f g this that = this ∙ sym that
-one_found (Ok cs) false (Ok h) false f g this that = this ∙ sym that
-one_found (Ok cs) false (Ok h) true f g (r, v, this) (s, w, that) =
+one_found (Ok cs) false (Ok h) (Some n) f g this that = this ∙ sym that
+one_found (Ok cs) false (Ok h) None f g (r, v, this) (s, w, that) =
     this ∙ (ap judged (one_verdict h.0 cs h.1 r s v w) ∙ sym that)
 
 pub one_finding : OneFinding
@@ -86,16 +86,16 @@ module _ (e : Estate) (within : Within e) where
   shares_fit =
       fitting_more d xs (omega (arith, parts_small e within)) (λ i. omega (arith, share_small e within i))
 
-  passed : (f : Finding) → Found (Ok (counted e)) false (Ok (d, xs)) true f → f ≡ Right
+  passed : (f : Finding) → Found (Ok (counted e)) false (Ok (d, xs)) None f → f ≡ Right
   passed f (r, v, is) =
       is ∙ ap judged (accepts_divisions d (divided e) (counted e) xs r v (closed_divides (divided e) (counted e) (omega arith)).1)
 
   pub printed_passes : (f : Finding) → length (counted e) ≤ most_served → InText (printed e) f → f ≡ Right
-  unfolding says
+  unfolding says blank_lines
   printed_passes f few found =
-      let (first, rest) = in_lines (spaced (counted e)) (answer_text (parts d xs) ++ (10 ∷ [])) (one_line-spaced (counted e) claims_fit) in
-      let (second, end) = in_lines (answer_text (parts d xs)) [] (one_line-parts d xs shares_fit) in
-      passed f (rw (first, rest, second, end, numbers_back (counted e) claims_fit, served (counted e) few, division_back d xs shares_fit) at found)
+      let (first, rest) = in_lines (spaced (counted e)) (as_line (answer_text (parts d xs))) (one_line-spaced (counted e) claims_fit) in
+      let (second, end) = last_line (answer_text (parts d xs)) (one_line-parts d xs shares_fit) in
+      passed f (rw (first, rest, second, end, numbers_back (counted e) claims_fit, served (counted e) few, shares_back d xs shares_fit) at found)
 
 pub desks_pass : DesksPass
 desks_pass e f within few found = printed_passes e within f few (in_text (printed e) f found)
@@ -108,9 +108,9 @@ only_divisions text d e cs xs found claims shares whole =
     only_divided d e cs xs (rw (sym same, sym (ap (λ p. p.0) parted), sym (ap (λ p. p.1) parted)) found.verdict) whole
 
 -- what is found of claims and shares that were read
-module _ (text cs : List ℕ) (d : ℕ) (xs : List ℕ) (claims : numbers_of (first_line text) ≡ Ok cs) (few : length cs ≤ most_served) (shares : division_of (first_line (rest_of text)) ≡ Ok (d, xs)) where
-  pub found_more : is_space (rest_of (rest_of text)) ≡ false → HasMore text
-  found_more more = record {
+module _ (text cs : List ℕ) (d : ℕ) (xs : List ℕ) (claims : numbers_of (first_line text) ≡ Ok cs) (few : length cs ≤ most_served) (shares : shares_of (first_line (rest_of text)) ≡ Ok (d, xs)) where
+  pub found_more : (n : ℕ) → blank_behind text ≡ Some n → HasMore text n
+  found_more n more = record {
     claims = cs;
     d = d;
     shares = xs;
@@ -119,7 +119,7 @@ module _ (text cs : List ℕ) (d : ℕ) (xs : List ℕ) (claims : numbers_of (fi
     more = more;
   }
 
-  pub found_checked : (r s : Answered) → is_space (rest_of (rest_of text)) ≡ true → Verdict d cs xs r → r ≡ s → Checked text s
+  pub found_checked : (r s : Answered) → blank_behind text ≡ None → Verdict d cs xs r → r ≡ s → Checked text s
   found_checked r s ends verdict same = record {
     claims = cs;
     d = d;

@@ -1,26 +1,26 @@
 -- What an audit of a text finds, and what is printed of it. Assumes nothing.
-use Rattle.std.specs.Prelude.{◌≡◌, ℕ, ◌<◌, ◌≤◌, true, false, List, ◌++◌, length, Ok, Err, decimal, codes}
+use Rattle.std.specs.Prelude.{◌≡◌, ℕ, ◌+◌, ◌<◌, ◌≤◌, List, Some, None, Option, ◌++◌, length, Ok, Err, decimal, codes}
 use Rattle.estate.specs.Limits.{most_served}
 use Rattle.shares.specs.Pairs.{fault_text, Answered, Verdict}
 use Rattle.shares.specs.declared.pairs.Fault.{Fault}
 use Rattle.shares.specs.declared.pairs.Fault.TheVariants.{Unpaired, NoParts, Pair, Alone}
-use Rattle.text.specs.Read.{numbers_of, division_of}
-use Rattle.auditing.specs.Texts.{first_line, rest_of, is_space}
+use Rattle.text.specs.Read.{numbers_of, shares_of}
+use Rattle.auditing.specs.Texts.{first_line, rest_of, blank_lines}
 use Rattle.auditing.specs.declared.checking.Finding.{Finding}
-use Rattle.auditing.specs.declared.checking.Finding.TheVariants.{Right, Wrong, Claims, TooMany, Shares, More}
+use Rattle.auditing.specs.declared.checking.Finding.TheVariants.{Right, Wrong, ClaimsMisfit, TooMany, SharesMisfit, Line}
 
--- the first line of a text is so many claims, as many as are served
+-- the first line of a text is these claims, no more than are served
 pub record HasClaims (text cs : List ℕ) : Type 0 where
   pub read : numbers_of (first_line text) ≡ Ok cs
   pub few : length cs ≤ most_served
 
 -- the second is shares in d-ths of a cent
 pub record HasShares (text : List ℕ) (d : ℕ) (xs : List ℕ) : Type 0 where
-  pub read : division_of (first_line (rest_of text)) ≡ Ok (d, xs)
+  pub read : shares_of (first_line (rest_of text)) ≡ Ok (d, xs)
 
--- and nothing is behind that
-abbrev pub Ends : List ℕ → Type 0
-Ends text = is_space (rest_of (rest_of text)) ≡ true
+-- how many lines behind it are blank, before one that is not
+abbrev pub blank_behind : List ℕ → Option ℕ
+blank_behind text = blank_lines 0 (rest_of (rest_of text))
 
 -- a text of claims, shares and nothing else, and what the check of these answers
 pub record Checked (text : List ℕ) (answer : Answered) : Type 0 where
@@ -29,24 +29,24 @@ pub record Checked (text : List ℕ) (answer : Answered) : Type 0 where
   pub shares : List ℕ
   pub has_claims : HasClaims text claims
   pub has_shares : HasShares text d shares
-  pub ends : Ends text
+  pub ends : blank_behind text ≡ None
   pub verdict : Verdict d claims shares answer
 
--- a text with something behind claims and shares
-pub record HasMore (text : List ℕ) : Type 0 where
+-- a text of claims and shares, and so many blank lines behind them before one that is not
+pub record HasMore (text : List ℕ) (n : ℕ) : Type 0 where
   pub claims : List ℕ
   pub d : ℕ
   pub shares : List ℕ
   pub has_claims : HasClaims text claims
   pub has_shares : HasShares text d shares
-  pub more : is_space (rest_of (rest_of text)) ≡ false
+  pub more : blank_behind text ≡ Some n
 
 -- What is found: in this order.
 abbrev pub IsAudited : List ℕ → Finding → Type 0
-IsAudited text (Claims p) = numbers_of (first_line text) ≡ Err p
+IsAudited text (ClaimsMisfit p) = numbers_of (first_line text) ≡ Err p
 IsAudited text TooMany = (cs : List ℕ) × (numbers_of (first_line text) ≡ Ok cs) × (most_served < length cs)
-IsAudited text (Shares p) = (cs : List ℕ) × HasClaims text cs × (division_of (first_line (rest_of text)) ≡ Err p)
-IsAudited text More = HasMore text
+IsAudited text (SharesMisfit p) = (cs : List ℕ) × HasClaims text cs × (shares_of (first_line (rest_of text)) ≡ Err p)
+IsAudited text (Line n) = (k : ℕ) × HasMore text k × (n ≡ k + 3)
 IsAudited text (Wrong fault) = Checked text (Err fault)
 IsAudited text Right = Checked text (Ok tt)
 
@@ -60,9 +60,9 @@ wrong_text Alone = fault_text Alone
 abbrev pub finding_text : Finding → List ℕ
 finding_text Right = codes "right"
 finding_text (Wrong fault) = wrong_text fault
-finding_text (Claims p) =
+finding_text (ClaimsMisfit p) =
     codes "line 1, from byte " ++ decimal p ++ codes " on: claims are written as 100 200 300"
 finding_text TooMany = codes "line 1: more than " ++ decimal most_served ++ codes " claims"
-finding_text (Shares p) =
+finding_text (SharesMisfit p) =
     codes "line 2, from byte " ++ decimal p ++ codes " on: shares are written as d 6: 200 200 200"
-finding_text More = codes "line 3: nothing may stand behind the shares"
+finding_text (Line n) = codes "line " ++ decimal n ++ codes ": nothing may stand behind the shares"

@@ -5,7 +5,7 @@ use Rattle.estate.specs.Division.{divides}
 use Rattle.estate.specs.Estates.{Estate, counted, Within}
 use Rattle.estate.specs.Limits.{most_served}
 use Rattle.estate.specs.Right.{says}
-use Rattle.text.specs.Printed.{spaced, answer_text}
+use Rattle.text.specs.Printed.{spaced, as_line, answer_text}
 use Rattle.auditing.specs.Audits.{Checked, HasClaims, HasShares, IsAudited}
 use Rattle.auditing.specs.declared.checking.Finding.{Finding}
 use Rattle.auditing.specs.declared.checking.Finding.TheVariants.{Right}
@@ -16,7 +16,7 @@ OneFinding = (text : List ℕ) (f g : Finding) → IsAudited text f → IsAudite
 
 -- the claims of an estate, and below them its shares as the desk says them, both as they are printed
 abbrev pub printed : Estate → List ℕ
-printed e = spaced (counted e) ++ (10 ∷ (answer_text (says e shares) ++ (10 ∷ [])))
+printed e = as_line (spaced (counted e)) ++ as_line (answer_text (says e shares))
 
 -- are right
 abbrev pub DesksPass : Type 0

@@ -1,7 +1,7 @@
 -- The lines of a text. Assumes nothing.
-use Rattle.std.specs.Prelude.{ℕ, ◌+◌, Bool, List, take, drop, ◌==◌}
-use Rattle.std.specs.Char.{is_ascii_whitespace}
-use Rattle.std.specs.List.{list_all, position_or_len}
+use Rattle.std.specs.Prelude.{ℕ, ◌+◌, List, [], ◌∷◌, take, drop, Some, None, Option, ◌==◌, if◌then◌else◌}
+use Rattle.std.specs.List.{position_or_len}
+use Rattle.text.specs.Read.{is_blank}
 
 -- the place of the first feed, which ends a line, or that behind the last byte
 abbrev pub feed_at : List ℕ → ℕ
@@ -14,5 +14,8 @@ first_line text = take (feed_at text) text
 abbrev pub rest_of : List ℕ → List ℕ
 rest_of text = drop (feed_at text + 1) text
 
-abbrev pub is_space : List ℕ → Bool
-is_space text = list_all is_ascii_whitespace text
+-- behind so many lines, how many are before the first that is not blank
+unfoldable pub blank_lines : ℕ → List ℕ → Option ℕ
+blank_lines n [] = None
+blank_lines n (b ∷ bs) =
+    if is_blank b then blank_lines n bs else (if b == 10 then blank_lines (n + 1) bs else Some n)

@@ -1,9 +1,9 @@
 // Claims and shares that are read from a text, and checked.
-ghost use Rattle.std.specs.Prelude.{◌≡◌, IfOk, Some};
+ghost use Rattle.std.specs.Prelude.{IfOk, Some};
 ghost use Rattle.auditing.specs.Audits.{finding_text, IsAudited};
 ghost use Rattle.auditing.specs.Laws.{DesksPass, OneFinding, OnlyDivisions};
 
-use crate::lines::{first_line, is_space};
+use crate::lines::{blank_lines, first_line};
 use estate::MOST_SERVED;
 use shares::{Fault, check};
 use std::alloc::{AllocError, Global};
@@ -18,13 +18,13 @@ pub enum Finding {
     // they are none
     Wrong(Fault),
     // the first line ceases to be claims at this place, counted from 0
-    Claims(usize),
+    ClaimsMisfit(usize),
     // there are more claims than are served
     TooMany,
     // the second line ceases to be shares at this place
-    Shares(usize),
-    // something is behind it
-    More,
+    SharesMisfit(usize),
+    // another line is not blank: this one, counted from 1
+    Line(usize),
 }
 
 impl fmt::Display for Finding {
@@ -37,20 +37,20 @@ impl fmt::Display for Finding {
                 write!(f, "line 2: {fault}")
             }
             Finding::Wrong(fault) => write!(f, "{fault}"),
-            Finding::Claims(at) => {
+            Finding::ClaimsMisfit(at) => {
                 write!(
                     f,
                     "line 1, from byte {at} on: claims are written as 100 200 300"
                 )
             }
             Finding::TooMany => write!(f, "line 1: more than {MOST_SERVED} claims"),
-            Finding::Shares(at) => {
+            Finding::SharesMisfit(at) => {
                 write!(
                     f,
                     "line 2, from byte {at} on: shares are written as d 6: 200 200 200"
                 )
             }
-            Finding::More => write!(f, "line 3: nothing may stand behind the shares"),
+            Finding::Line(line) => write!(f, "line {line}: nothing may stand behind the shares"),
         }
     }
 }
@@ -66,22 +66,22 @@ pub fn audit(heap: Global, text: &[u8]) -> Result<Finding, AllocError>
     let (first, behind) = first_line(text);
     let claims = match read_numbers(heap, first) {
         Ok(claims) => claims,
-        Err(ReadError::Misfit(at)) => return Ok(Finding::Claims(at)),
+        Err(ReadError::Misfit(at)) => return Ok(Finding::ClaimsMisfit(at)),
         Err(ReadError::OutOfMemory) => return Err(AllocError),
     };
     if claims.len() > MOST_SERVED {
         return Ok(Finding::TooMany);
     }
     let (second, rest) = first_line(behind);
-    let division = match read_shares(heap, second) {
-        Ok(division) => division,
-        Err(ReadError::Misfit(at)) => return Ok(Finding::Shares(at)),
+    let read = match read_shares(heap, second) {
+        Ok(read) => read,
+        Err(ReadError::Misfit(at)) => return Ok(Finding::SharesMisfit(at)),
         Err(ReadError::OutOfMemory) => return Err(AllocError),
     };
-    if !is_space(rest) {
-        return Ok(Finding::More);
+    if let Some(lines) = blank_lines(rest) {
+        return Ok(Finding::Line(lines + 3));
     }
-    match check(division.parts, &claims, &division.shares) {
+    match check(read.parts, &claims, &read.shares) {
         Ok(()) => Ok(Finding::Right),
         Err(fault) => Ok(Finding::Wrong(fault)),
     }

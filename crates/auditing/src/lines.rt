@@ -1,6 +1,8 @@
 // A text, line by line.
-ghost use Rattle.std.specs.Prelude.{◌≡◌, ◌≤◌, length};
-ghost use Rattle.auditing.specs.Texts.{feed_at, first_line, is_space, rest_of};
+ghost use Rattle.std.specs.Prelude.{◌≡◌, ◌≤◌, IfSome, length};
+ghost use Rattle.auditing.specs.Texts.{blank_lines, feed_at, first_line, rest_of};
+
+use text::is_blank;
 
 // The first line of a text, without the feed that ends it, and what is behind that.
 pub(crate) fn first_line(text: &[u8]) -> (&[u8], &[u8])
@@ -25,9 +27,21 @@ fn feed_at(text: &[u8]) -> usize
     text.len()
 }
 
-// Whether a text has nothing but white space.
-pub(crate) fn is_space(text: &[u8]) -> bool
-    ensures { result ≡ is_space text.now }
+// How many lines are before the first that is not blank; none if all are.
+#[tactic(auto, using(crate::proofs::Feeds::blanks))]
+pub(crate) fn blank_lines(text: &[u8]) -> Option<usize>
+    ensures lines { result ≡ blank_lines 0 text.now }
+    ensures few { IfSome result (λ n. n ≤ length text.now) }
 {
-    text.iter().all(|byte| byte.is_ascii_whitespace())
+    let mut lines = 0;
+    for byte in text {
+        if is_blank(*byte) {
+            continue;
+        }
+        if *byte != b'\n' {
+            return Some(lines);
+        }
+        lines += 1;
+    }
+    None
 }

@@ -4,7 +4,7 @@
 use anyhow::{Context, Result, bail, ensure};
 use std::io::Read;
 use std::rt::{Env, Files};
-use std::{env, fs, io};
+use std::{env, fs};
 
 pub enum Command {
     // to say how it is used
@@ -13,32 +13,32 @@ pub enum Command {
     Read(Vec<u8>),
 }
 
-// What it is asked. No contract says which bytes a file has.
-pub fn parse(rt: &(impl Env + Files + Input + AllocGlobal)) -> Result<Command> {
+// What it is asked, and the bytes that it is to read. No contract says which bytes a file has.
+pub fn read_command(rt: &(impl Env + Files + Input + AllocGlobal)) -> Result<Command> {
     let mut words = env::args(rt)?.skip(1);
-    let Some(word) = words.next() else {
-        return Ok(Command::Read(standard_input(rt)?));
-    };
+    let word = words.next();
     ensure!(
         words.next().is_none(),
         "more than one argument; --help says how this is used"
     );
-    match word.as_str() {
+    match word.as_ref().map_or("-", |word| word.as_str()) {
         "--help" | "-h" => Ok(Command::Help),
         "-" => Ok(Command::Read(standard_input(rt)?)),
         option if option.starts_with('-') => {
             bail!("there is no option {option}; --help says how this is used")
         }
         path => {
-            let bytes = fs::read(rt, path).context(format_args!("{path} cannot be read"))?;
+            let bytes = fs::read(rt, path).context(format_args!("`{path}` cannot be read"))?;
             Ok(Command::Read(bytes))
         }
     }
 }
 
 // All the bytes of standard input.
-fn standard_input(rt: &(impl Input + AllocGlobal)) -> io::Result<Vec<u8>> {
+fn standard_input(rt: &(impl Input + AllocGlobal)) -> Result<Vec<u8>> {
     let mut bytes = Vec::new(rt.alloc());
-    rt.reader().read_to_end(&mut bytes)?;
+    rt.reader()
+        .read_to_end(&mut bytes)
+        .context("standard input cannot be read")?;
     Ok(bytes)
 }

@@ -1,4 +1,4 @@
-// The limits of an estate, as its definitions have them, and the examples that its definitions are held to.
+// The limits of an estate and of the programs, as the definitions have them, and the examples that these are held to.
 #![tactic(auto)]
 
 ghost use Rattle.std.specs.Prelude.{◌≡◌, ◌↔◌, ◌≤◌, IsTrue, All, length};

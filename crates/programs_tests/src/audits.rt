@@ -1,6 +1,6 @@
 // Texts of claims and shares, and what an audit finds of them.
 use crate::common::{Numbers, say};
-use auditing::Finding::{self, Claims, More, Right, Shares, TooMany, Wrong};
+use auditing::Finding::{self, ClaimsMisfit, Line, Right, SharesMisfit, TooMany, Wrong};
 use auditing::audit;
 use shares::Fault::{Alone, NoParts, Pair, Unpaired};
 use std::alloc::{AllocError, Global};
@@ -43,7 +43,7 @@ const RIGHT: &[&[u8]] = &[
     b"2 1\r\nd 2: 3 1\r\n",
     b"2 1\r\nd 2: 3 1\r",
     b"2 1\nd 2: 3 1\n\n",
-    b"2 1\nd 2: 3 1\n \t\r\n\x0c\n  ",
+    b"2 1\nd 2: 3 1\n \t\r\n\n  ",
     b"18446744073709551615 18446744073709551615\nd 1: 18446744073709551615 18446744073709551615\n",
     b"18446744073709551615 0\nd 18446744073709551615: 18446744073709551615 0\n",
 ];
@@ -143,61 +143,64 @@ const NO_PARTS: &[u8] = b"line 2: a cent has no parts";
 // a feed in the head; no colon, besides a third line; a point.
 // A third line, also behind empty ones; bytes that are no white space; besides two that do not divide, and no parts.
 const UNREAD: &[Wanted] = &[
-    (b"x\nd 1: 1\n", Claims(0), CLAIMS_0),
-    (b"\xef\xbb\xbf1\nd 1: 1\n", Claims(0), CLAIMS_0),
-    (b"d 1: 1\n1\n", Claims(0), CLAIMS_0),
+    (b"x\nd 1: 1\n", ClaimsMisfit(0), CLAIMS_0),
+    (b"\xef\xbb\xbf1\nd 1: 1\n", ClaimsMisfit(0), CLAIMS_0),
+    (b"d 1: 1\n1\n", ClaimsMisfit(0), CLAIMS_0),
     (
         b"100, 200\nD 1: 100 200\n",
-        Claims(3),
+        ClaimsMisfit(3),
         b"line 1, from byte 3 on: claims are written as 100 200 300",
     ),
     (
         b"1\rd 1: 1\rx",
-        Claims(2),
+        ClaimsMisfit(2),
         b"line 1, from byte 2 on: claims are written as 100 200 300",
     ),
     (
         b"100 200 18446744073709551616",
-        Claims(27),
+        ClaimsMisfit(27),
         b"line 1, from byte 27 on: claims are written as 100 200 300",
     ),
-    (b"", Shares(0), SHARES_0),
-    (b"\n", Shares(0), SHARES_0),
-    (b"1 2", Shares(0), SHARES_0),
-    (b"1 2\n", Shares(0), SHARES_0),
-    (b"1 2\r\n\r\n", Shares(0), SHARES_0),
-    (b"1 2\n\nd 2: 1 2\n", Shares(0), SHARES_0),
-    (b"\n1 2\nd 2: 1 2\n", Shares(0), SHARES_0),
-    (b"1 2\n1 2\n", Shares(0), SHARES_0),
+    (b"", SharesMisfit(0), SHARES_0),
+    (b"\n", SharesMisfit(0), SHARES_0),
+    (b"1 2", SharesMisfit(0), SHARES_0),
+    (b"1 2\n", SharesMisfit(0), SHARES_0),
+    (b"1 2\r\n\r\n", SharesMisfit(0), SHARES_0),
+    (b"1 2\n\nd 2: 1 2\n", SharesMisfit(0), SHARES_0),
+    (b"\n1 2\nd 2: 1 2\n", SharesMisfit(0), SHARES_0),
+    (b"1 2\n1 2\n", SharesMisfit(0), SHARES_0),
     (
         b"1 2\nd\n2: 1 2\n",
-        Shares(1),
+        SharesMisfit(1),
         b"line 2, from byte 1 on: shares are written as d 6: 200 200 200",
     ),
     (
         b"1 2\nd 2 1 2\nd 2: 1 2\n",
-        Shares(3),
+        SharesMisfit(3),
         b"line 2, from byte 3 on: shares are written as d 6: 200 200 200",
     ),
     (
         b"100 200 300\nd 6: 200 200 200.\n",
-        Shares(16),
+        SharesMisfit(16),
         b"line 2, from byte 16 on: shares are written as d 6: 200 200 200",
     ),
-    (b"1\nd 1: 1\nx", More, MORE),
-    (b"1\nd 1: 1\n\n\r\n 0\n", More, MORE),
-    (b"1\nd 1: 1\n\0", More, MORE),
-    (b"1\nd 1: 1\n\x0b\n", More, MORE),
-    (b"1\nd 1: 1\n\xc2\xa0\n", More, MORE),
-    (b"1\nd 1: 9\n1\n", More, MORE),
-    (b"1 2\nd 0: 9\n1\n", More, MORE),
+    (b"1\nd 1: 1\nx", Line(3), LINE_3),
+    (b"1\nd 1: 1\n\n\r\n 0\n", Line(5), LINE_5),
+    (b"1\nd 1: 1\n\0", Line(3), LINE_3),
+    (b"1\nd 1: 1\n\x0b\n", Line(3), LINE_3),
+    (b"1\nd 1: 1\n \x0c\n", Line(3), LINE_3),
+    (b"1\nd 1: 1\n\xc2\xa0\n", Line(3), LINE_3),
+    (b"1\nd 1: 9\n1\n", Line(3), LINE_3),
+    (b"1 2\nd 0: 9\n1\n", Line(3), LINE_3),
 ];
 
 const CLAIMS_0: &[u8] = b"line 1, from byte 0 on: claims are written as 100 200 300";
 
 const SHARES_0: &[u8] = b"line 2, from byte 0 on: shares are written as d 6: 200 200 200";
 
-const MORE: &[u8] = b"line 3: nothing may stand behind the shares";
+const LINE_3: &[u8] = b"line 3: nothing may stand behind the shares";
+
+const LINE_5: &[u8] = b"line 5: nothing may stand behind the shares";
 
 #[test]
 fn findings(rt: HostRuntime) -> Result<(), Fail> {
@@ -225,12 +228,12 @@ const MANY: &[(Counted, Finding, &[u8])] = &[
     ((65, "", 0, ""), TooMany, TOO_MANY),
     (
         (65, "x\nd 1: ", 65, "\n"),
-        Claims(130),
+        ClaimsMisfit(130),
         b"line 1, from byte 130 on: claims are written as 100 200 300",
     ),
     ((64, "\nd 1: ", 65, "\n"), Wrong(Unpaired), UNPAIRED),
     ((64, "\nd 1: ", 63, "0\n"), Wrong(Pair(0, 63)), b"0 and 63"),
-    ((64, "\nd 1: ", 64, "\n1"), More, MORE),
+    ((64, "\nd 1: ", 64, "\n1"), Line(3), LINE_3),
 ];
 
 const TOO_MANY: &[u8] = b"line 1: more than 64 claims";

@@ -5,9 +5,9 @@ use Rattle.std.proofs.lemmas.Fmt.{decimal_by_steps}
 use Rattle.std.proofs.lemmas.List.{append-nil, append_assoc, length-append}
 use Rattle.std.specs.Prelude.{decimal, codes, nat_lt, ◌==◌}
 use Rattle.wire.specs.Bytes.{Fitting}
-use Rattle.text.specs.Laws.{NumbersBack, DivisionBack}
+use Rattle.text.specs.Laws.{NumbersBack, SharesBack}
 use Rattle.text.specs.Printed.{behind}
-use Rattle.text.specs.Read.{is_blank, grown, grows, so_far, closed, with_parts, numbers_from, division_from}
+use Rattle.text.specs.Read.{is_blank, grown, grows, so_far, closed, with_parts, numbers_from, shares_from}
 
 -- a number with its last digit
 digit_grows : (n : ℕ) → n < 2 ^ 64 → (grows (n / 10) (48 + n % 10) ≡ true) × (grown (n / 10) (48 + n % 10) ≡ n)
@@ -44,8 +44,8 @@ digit_next ns at begun b bs l g =
     rw (plain, g) refl
 
 -- and no colon
-pub digit_heads : (at : ℕ) (begun : Option ℕ) (b : ℕ) (bs : List ℕ) → 2 ≤ at → grows (so_far begun) b ≡ true → division_from at begun (b ∷ bs) ≡ division_from (at + 1) (Some (grown (so_far begun) b)) bs
-unfolding division_from
+pub digit_heads : (at : ℕ) (begun : Option ℕ) (b : ℕ) (bs : List ℕ) → 2 ≤ at → grows (so_far begun) b ≡ true → shares_from at begun (b ∷ bs) ≡ shares_from (at + 1) (Some (grown (so_far begun) b)) bs
+unfolding shares_from
 digit_heads at begun b bs l g =
     let plain : (b == 58) ≡ false = grind (arith, nat_tests) in
     let zero : (at == 0) ≡ false = grind (arith, nat_tests) in
@@ -68,9 +68,9 @@ numbers_back [] fit = refl
 numbers_back (n ∷ ns) fit =
     numeral_taken (λ k b bs. numbers_from k [] b bs) 0 (digit_next []) n (fit 0) 0 (behind ns) (omega arith) ∙ behind_read ns (λ i. fit (suc i)) (0 + length (decimal n)) [] (Some n)
 
-pub division_back : DivisionBack
-unfolding division_from
-division_back d xs fit =
-    let digits = numeral_taken division_from 2 digit_heads d (fit 0) 2 (codes ":" ++ behind xs) (omega arith) in
+pub shares_back : SharesBack
+unfolding shares_from
+shares_back d xs fit =
+    let digits = numeral_taken shares_from 2 digit_heads d (fit 0) 2 (codes ":" ++ behind xs) (omega arith) in
     let read = behind_read xs (λ i. fit (suc i)) (2 + length (decimal d) + 1) [] None in
-    ap (division_from 2 None) (append_assoc (decimal d) (codes ":") (behind xs)) ∙ (digits ∙ ap (with_parts d) read)
+    ap (shares_from 2 None) (append_assoc (decimal d) (codes ":") (behind xs)) ∙ (digits ∙ ap (with_parts d) read)

@@ -3,16 +3,16 @@ use Rattle.std.specs.Prelude.{◌≡◌, ◌≢◌, ℕ, suc, ◌<◌, ◌≤◌
 use Rattle.estate.specs.Answers.{parts}
 use Rattle.wire.specs.Bytes.{Fitting}
 use Rattle.text.specs.Printed.{spaced, answer_text}
-use Rattle.text.specs.Read.{Reading, numbers_of, division_of}
+use Rattle.text.specs.Read.{Reading, numbers_of, shares_of}
 
 -- numbers that were printed are read as they were
 abbrev pub NumbersBack : Type 0
 NumbersBack = (ns : List ℕ) → Fitting ns → numbers_of (spaced ns) ≡ Ok ns
 
 -- and so are shares
-abbrev pub DivisionBack : Type 0
-DivisionBack =
-    (d : ℕ) (xs : List ℕ) → Fitting (d ∷ xs) → division_of (answer_text (parts d xs)) ≡ Ok (d, xs)
+abbrev pub SharesBack : Type 0
+SharesBack =
+    (d : ℕ) (xs : List ℕ) → Fitting (d ∷ xs) → shares_of (answer_text (parts d xs)) ≡ Ok (d, xs)
 
 -- Place p is that of the first byte that does not fit: some line that can be read begins with the bytes before it, and none
 -- with these and the one at p, if there is one.

@@ -17,6 +17,10 @@ abbrev pub spaced : List ℕ → List ℕ
 spaced [] = []
 spaced (n ∷ ns) = decimal n ++ behind ns
 
+-- with the feed that ends a line
+abbrev pub as_line : List ℕ → List ℕ
+as_line text = text ++ (10 ∷ [])
+
 -- an answer
 abbrev pub answer_text : Answer → List ℕ
 answer_text (refused n p) = refused_text n p

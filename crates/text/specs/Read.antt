@@ -1,6 +1,6 @@
 -- What a line is as numbers, and as shares. Assumes nothing.
 use Rattle.std.specs.Prelude.{◌≡◌, ℕ, ◌≤◌, ◌+◌, ◌-◌, ◌*◌, ◌^◌, Bool, ◌&&◌, ◌||◌, if◌then◌else◌, List, [], ◌∷◌, ◌++◌, length, drop, Some, None, Ok, Err, Option, Result, is_some, unwrap_or, nat_lt, nat_le, ◌==◌}
-use Rattle.text.specs.declared.reading.Division.{Division}
+use Rattle.text.specs.declared.reading.ShareLine.{ShareLine}
 use Rattle.text.specs.declared.reading.ReadError.{ReadError}
 use Rattle.text.specs.declared.reading.ReadError.TheVariants.{Misfit, OutOfMemory}
 
@@ -53,17 +53,17 @@ abbrev pub heads : ℕ → Option ℕ → ℕ → Bool
 heads at begun b = if at == 0 then b == 100 else (if at == 1 then b == 32 else grows (so_far begun) b)
 
 -- The line, from a place in its head on: behind the colon are the shares.
-unfoldable pub division_from : ℕ → Option ℕ → List ℕ → Reading (ℕ × List ℕ)
-division_from at begun [] = Err at
-division_from at begun (b ∷ bs) =
+unfoldable pub shares_from : ℕ → Option ℕ → List ℕ → Reading (ℕ × List ℕ)
+shares_from at begun [] = Err at
+shares_from at begun (b ∷ bs) =
     if b == 58 && is_some begun then with_parts (so_far begun) (numbers_from (at + 1) [] None bs)
-    else (if heads at begun b then division_from (at + 1) (headed at begun b) bs
+    else (if heads at begun b then shares_from (at + 1) (headed at begun b) bs
     else Err at)
 
-abbrev pub division_of : List ℕ → Reading (ℕ × List ℕ)
-division_of line = division_from 0 None line
+abbrev pub shares_of : List ℕ → Reading (ℕ × List ℕ)
+shares_of line = shares_from 0 None line
 
-abbrev pub in_parts : Division → ℕ × List ℕ
+abbrev pub in_parts : ShareLine → ℕ × List ℕ
 in_parts v = (v.parts, v.shares.items)
 
 -- What reading gives, where that is what is read: a value that means it, or the same place; or memory is wanting.
@@ -76,6 +76,6 @@ IsRead means r (Err OutOfMemory) = Unit {0}
 -- line ceases to be one of shares.
 abbrev pub IsHead : List ℕ → Result (ℕ × ℕ) ReadError → Type 0
 IsHead line (Ok h) =
-    (h.1 ≤ length line) × (division_of line ≡ with_parts h.0 (numbers_from h.1 [] None (drop h.1 line)))
-IsHead line (Err (Misfit p)) = division_of line ≡ Err p
+    shares_of line ≡ with_parts h.0 (numbers_from h.1 [] None (drop h.1 line))
+IsHead line (Err (Misfit p)) = shares_of line ≡ Err p
 IsHead line (Err OutOfMemory) = ⊥

@@ -5,4 +5,4 @@ mod printing;
 mod reading;
 
 pub use printing::{Shown, Spaced};
-pub use reading::{Division, ReadError, read_numbers, read_shares};
+pub use reading::{ReadError, ShareLine, is_blank, read_numbers, read_shares};

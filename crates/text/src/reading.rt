@@ -1,7 +1,7 @@
 // Lines that are read: numbers, and shares as they are printed.
 ghost use Rattle.std.specs.Prelude.{◌≡◌, ◌==◌, ◌&&◌, ◌≤◌, IfOk, is_some, SomeIff, IsTrue, None, [], drop, length};
-ghost use Rattle.text.specs.Laws.{NumbersBack, DivisionBack, MisfitsFirst};
-ghost use Rattle.text.specs.Read.{closed, division_of, grown, grows, headed, heads, is_blank, numbers_from, numbers_of, so_far};
+ghost use Rattle.text.specs.Laws.{NumbersBack, SharesBack, MisfitsFirst};
+ghost use Rattle.text.specs.Read.{closed, shares_of, grown, grows, headed, heads, is_blank, numbers_from, numbers_of, so_far};
 ghost use Rattle.text.specs.Read.{in_parts, IsHead, IsRead};
 ghost use Rattle.text.specs.declared.reading.ReadError.TheVariants.{OutOfMemory};
 
@@ -23,9 +23,9 @@ impl From<AllocError> for ReadError {
     }
 }
 
-// Shares, and how many parts of a cent they are in.
+// A line of shares, and how many parts a cent has in it.
 #[derive(Debug, PartialEq, Eq, Drop)]
-pub struct Division {
+pub struct ShareLine {
     pub parts: u64,
     pub shares: Vec<u64>,
 }
@@ -41,21 +41,20 @@ pub fn read_numbers(heap: Global, line: &[u8]) -> Result<Vec<u64>, ReadError>
 }
 
 // The shares in a line: `d 6: 200 200 200`.
-#[tactic(auto, using(crate::proofs::Back::division_back, crate::proofs::Heads::division_misfits_first))]
-pub fn read_shares(heap: Global, line: &[u8]) -> Result<Division, ReadError>
-    ensures read { IsRead in_parts (division_of line.now) result }
-    ensures back { DivisionBack }
-    ensures misfit { MisfitsFirst division_of }
+#[tactic(auto, using(crate::proofs::Back::shares_back, crate::proofs::Heads::shares_misfits_first))]
+pub fn read_shares(heap: Global, line: &[u8]) -> Result<ShareLine, ReadError>
+    ensures read { IsRead in_parts (shares_of line.now) result }
+    ensures back { SharesBack }
+    ensures misfit { MisfitsFirst shares_of }
 {
     let (parts, start) = head(line)?;
     let shares = numbers_from(heap, line, start)?;
-    Ok(Division { parts, shares })
+    Ok(ShareLine { parts, shares })
 }
 
 // The numbers in a line from a place on.
 #[tactic(auto, using(crate::proofs::Lines::numbers_next, crate::proofs::Lines::numbers_end))]
 fn numbers_from(heap: Global, line: &[u8], start: usize) -> Result<Vec<u64>, ReadError>
-    requires { start ≤ length line.now }
     ensures { IsRead (λ v. v.items) (numbers_from start [] None (drop start line.now)) result }
 {
     let mut whole = Vec::new(heap);
@@ -131,8 +130,8 @@ fn grown(number: u64, digit: u8) -> Option<u64>
     number.checked_mul(10)?.checked_add(u64::from(digit - b'0'))
 }
 
-// Whether a byte may stand between numbers.
-fn is_blank(byte: u8) -> bool
+// Whether a byte may stand between numbers: a space, a tab, or the return that ends a line before its feed.
+pub fn is_blank(byte: u8) -> bool
     ensures { result ≡ is_blank byte }
 {
     matches!(byte, b' ' | b'\t' | b'\r')

@@ -7,7 +7,7 @@ use Rattle.estate.specs.Changes.{after}
 use Rattle.estate.specs.Estates.{Estate, new_estate}
 use Rattle.estate.specs.Limits.{Limits}
 use Rattle.estate.specs.Right.{right, answered}
-use Rattle.text.specs.Printed.{answer_text}
+use Rattle.text.specs.Printed.{as_line, answer_text}
 use Rattle.transcript.specs.Cutting.{Holds}
 use Rattle.transcript.specs.Sessions.{served}
 
@@ -18,7 +18,7 @@ answers l e (c ∷ cs) = answered l e c ∷ answers l (after l e c) cs
 
 -- an answer as a line
 abbrev pub line : Answer → List ℕ
-line a = answer_text a ++ (10 ∷ [])
+line a = as_line (answer_text a)
 
 abbrev pub lines : List Answer → List ℕ
 lines said = flat_map line said

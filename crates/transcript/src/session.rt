@@ -1,6 +1,6 @@
 // A desk in memory of its own.
 ghost use Rattle.std.specs.Prelude.{◌≡◌, ◌≤◌, IfOk, length, slice_index};
-ghost use Rattle.desk.specs.Memory.{bytes_asked, estate_of, Stands};
+ghost use Rattle.desk.specs.Memory.{bytes_asked, Stands};
 ghost use Rattle.estate.specs.Changes.{after};
 ghost use Rattle.estate.specs.Estates.{new_estate};
 ghost use Rattle.estate.specs.Limits.{most_served};

@@ -1,8 +1,8 @@
 -- What is left of the line is still to be read.
 use Rattle.std.proofs.Common.{◌≡◌, None, drop}
-use Rattle.text.specs.Read.{division_from}
+use Rattle.text.specs.Read.{shares_from}
 use Rattle.text.proofs.reading.head.Given as goal
 
 abbrev pub invariant-loop-at : goal.invariant-loop-at
 invariant-loop-at l =
-    division_from l.at l.begun (drop l.at l.line) ≡ division_from 0 None l.line
+    shares_from l.at l.begun (drop l.at l.line) ≡ shares_from 0 None l.line

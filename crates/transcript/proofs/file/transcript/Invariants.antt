@@ -1,3 +1,4 @@
+-- Whatever calls are left, their answers complete the text.
 use Rattle.transcript.proofs.file.transcript.Given as goal
 use Rattle.std.specs.Prelude.{string_bytes}
 use Rattle.transcript.specs.Sessions.{estate_at}
