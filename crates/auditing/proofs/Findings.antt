@@ -16,11 +16,11 @@ use Rattle.text.proofs.Back.{numbers_back, shares_back}
 use Rattle.text.proofs.Places.{one_value}
 use Rattle.auditing.proofs.Feeds.{one_line-spaced, one_line-parts, in_lines, last_line}
 use Rattle.shares.specs.Pairs.{Answered, Verdict}
-use Rattle.shares.proofs.EachTwo.{accepts_divisions, one_verdict, only_divisions as only_divided}
+use Rattle.shares.proofs.EachTwo.{accepts_divisions, one_verdict, only_divisions}
 use Rattle.text.specs.Read.{Reading, numbers_of, shares_of}
 use Rattle.auditing.specs.Audits.{blank_behind, Checked, HasMore, IsAudited}
 use Rattle.text.specs.Printed.{as_line, spaced, answer_text}
-use Rattle.auditing.specs.Laws.{printed, OneFinding, DesksPass, OnlyDivisions}
+use Rattle.auditing.specs.Laws.{printed, OneFinding, DesksPass, RightDivides}
 use Rattle.auditing.specs.Texts.{blank_lines, first_line, rest_of}
 use Rattle.auditing.specs.declared.checking.Finding.{Finding}
 use Rattle.auditing.specs.declared.checking.Finding.TheVariants.{Right, Wrong, ClaimsMisfit, TooMany, SharesMisfit, Line}
@@ -100,12 +100,12 @@ module _ (e : Estate) (within : Within e) where
 pub desks_pass : DesksPass
 desks_pass e f within few found = printed_passes e within f few (in_text (printed e) f found)
 
-pub only_divisions : OnlyDivisions
-unfolding OnlyDivisions
-only_divisions text d e cs xs found claims shares whole =
+pub right_divides : RightDivides
+unfolding RightDivides
+right_divides text d e cs xs found claims shares whole =
     let same : found.claims ≡ cs = one_value _ _ _ found.has_claims.read claims.read in
     let parted : (found.d, found.shares) ≡ (d, xs) = one_value _ _ _ found.has_shares.read shares.read in
-    only_divided d e cs xs (rw (sym same, sym (ap (λ p. p.0) parted), sym (ap (λ p. p.1) parted)) found.verdict) whole
+    only_divisions d e cs xs (rw (sym same, sym (ap (λ p. p.0) parted), sym (ap (λ p. p.1) parted)) found.verdict) whole
 
 -- what is found of claims and shares that were read
 module _ (text cs : List ℕ) (d : ℕ) (xs : List ℕ) (claims : numbers_of (first_line text) ≡ Ok cs) (few : length cs ≤ most_served) (shares : shares_of (first_line (rest_of text)) ≡ Ok (d, xs)) where
@@ -130,4 +130,4 @@ module _ (text cs : List ℕ) (d : ℕ) (xs : List ℕ) (claims : numbers_of (fi
     verdict = rw (sym same) verdict;
   }
 
-pub ruleset audits = (found_more, found_checked, one_finding, desks_pass, only_divisions)
+pub ruleset audits = (found_more, found_checked, one_finding, desks_pass, right_divides)

@@ -24,6 +24,6 @@ DesksPass =
     (e : Estate) (f : Finding) → Within e → length (counted e) ≤ most_served → IsAudited (printed e) f → f ≡ Right
 
 -- and shares that are found right divide what they come to, if that is whole cents
-unfoldable pub OnlyDivisions : Type 0
-OnlyDivisions =
+unfoldable pub RightDivides : Type 0
+RightDivides =
     (text : List ℕ) (d e : ℕ) (cs xs : List ℕ) → Checked text (Ok tt) → HasClaims text cs → HasShares text d xs → sum xs ≡ d * e → divides d e cs xs ≡ true

@@ -1,7 +1,7 @@
 // Claims and shares that are read from a text, and checked.
 ghost use Rattle.std.specs.Prelude.{IfOk, Some};
 ghost use Rattle.auditing.specs.Audits.{finding_text, IsAudited};
-ghost use Rattle.auditing.specs.Laws.{DesksPass, OneFinding, OnlyDivisions};
+ghost use Rattle.auditing.specs.Laws.{DesksPass, OneFinding, RightDivides};
 
 use crate::lines::{blank_lines, first_line};
 use estate::MOST_SERVED;
@@ -61,7 +61,7 @@ pub fn audit(heap: Global, text: &[u8]) -> Result<Finding, AllocError>
     ensures finding { IfOk result (IsAudited text.now) }
     ensures one { OneFinding }
     ensures desks_pass { DesksPass }
-    ensures only_divisions { OnlyDivisions }
+    ensures right_divides { RightDivides }
 {
     let (first, behind) = first_line(text);
     let claims = match read_numbers(heap, first) {

@@ -77,10 +77,6 @@ module _ (c : Call) (m new out sent : List ℕ) (s : Stands m) (limit : slice_in
     pub never_unread : Received (take n sent) None → ⊥
     never_unread r = r (answered served (estate_of m) c) (given (Ok n) called).1 (sym written_row)
 
--- what a vector holds when all of it was lent and came back
-pub all_written : (n : ℕ) (new was : List ℕ) → length new ≡ n → take n (new ++ drop (length new) was) ≡ new
-all_written n new was long = take_at new (drop (length new) was) n long
-
 -- a desk that is opened for so many creditors, where there is enough memory
 module _ (n : ℕ) (m new : List ℕ) (r : Result (Unit {0}) TurnedAway) (opened : Opened n m new r) (few : n ≤ most_creditors) (room : words_asked n ≤ length m) where
   laid_if : (r : Result (Unit {0}) TurnedAway) → Opened n m new r → IsOk r × (new ≡ layout (limits_for n) new_estate ++ drop (words_asked n) m)
@@ -106,6 +102,6 @@ module _ (n : ℕ) (m new : List ℕ) (r : Result (Unit {0}) TurnedAway) (opened
   pub estate_opened : estate_of new ≡ new_estate
   estate_opened = ap estate_of laid ∙ estate_read n new_estate (drop (words_asked n) m) fair.few
 
-pub ruleset openings = (is_opened, stands_opened, limit_opened, estate_opened, all_written)
+pub ruleset openings = (is_opened, stands_opened, limit_opened, estate_opened, take_at)
 
-pub ruleset replies = (still_stands, same_limit, estate_after, turned_away, written_long, read_back, never_unread, all_written)
+pub ruleset replies = (still_stands, same_limit, estate_after, turned_away, written_long, read_back, never_unread, take_at)
