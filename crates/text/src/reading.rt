@@ -1,5 +1,5 @@
 // Lines that are read: numbers, and shares as they are printed.
-ghost use Rattle.std.specs.Prelude.{◌≡◌, ◌==◌, ◌&&◌, ◌≤◌, IfOk, is_some, SomeIff, IsTrue, None, [], drop, length};
+ghost use Rattle.std.specs.Prelude.{◌≡◌, ◌==◌, ◌&&◌, IfOk, is_some, SomeIff, IsTrue, None, [], drop};
 ghost use Rattle.text.specs.Laws.{NumbersBack, SharesBack, MisfitsFirst};
 ghost use Rattle.text.specs.Read.{closed, shares_of, grown, grows, headed, heads, is_blank, numbers_from, numbers_of, so_far};
 ghost use Rattle.text.specs.Read.{in_parts, IsHead, IsRead};
