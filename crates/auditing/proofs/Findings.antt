@@ -130,4 +130,6 @@ module _ (text cs : List ℕ) (d : ℕ) (xs : List ℕ) (claims : numbers_of (fi
     verdict = rw (sym same) verdict;
   }
 
-pub ruleset audits = (found_more, found_checked, one_finding, desks_pass, right_divides)
+pub ruleset found = (found_more, found_checked)
+
+pub ruleset laws = (one_finding, desks_pass, right_divides)

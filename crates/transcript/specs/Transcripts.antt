@@ -23,9 +23,13 @@ line a = as_line (answer_text a)
 abbrev pub lines : List Answer → List ℕ
 lines said = flat_map line said
 
--- the text that answers a file, line by line
-unfoldable pub IsTranscript : List ℕ → List ℕ → Type 0
-IsTranscript bs text = (cs : List Call) × Holds bs cs × (text ≡ lines (answers served new_estate cs))
+-- the text that answers a file, line by line, for an estate
+unfoldable pub Answers : Estate → List ℕ → List ℕ → Type 0
+Answers e bs text = (cs : List Call) × Holds bs cs × (text ≡ lines (answers served e cs))
+
+-- and for a new one
+abbrev pub IsTranscript : List ℕ → List ℕ → Type 0
+IsTranscript bs text = Answers new_estate bs text
 
 -- each of these answers is right
 unfoldable pub AllRight : Limits → Estate → List Call → List Answer → Type 0

@@ -1,7 +1,8 @@
 // A file of calls, and the lines that answer them.
 ghost use Rattle.std.specs.Prelude.{IfOk, string_bytes};
 ghost use Rattle.transcript.specs.Laws.{CallsHeld, Cut, EachRight, OneTranscript, UnreadHeld};
-ghost use Rattle.transcript.specs.Transcripts.{IsTranscript};
+ghost use Rattle.transcript.specs.Sessions.{estate_at};
+ghost use Rattle.transcript.specs.Transcripts.{Answers, IsTranscript};
 
 use crate::session::Session;
 use std::alloc::{AllocError, Global};
@@ -10,7 +11,7 @@ use wire::Calls;
 
 // The answers to the calls that a file holds, one behind the other, a line for each. What cannot be read is answered once, as
 // the last.
-#[tactic(auto, using(crate::proofs::Lines::laws, crate::proofs::Lines::steps))]
+#[tactic(auto, using(crate::proofs::Lines::laws))]
 pub fn transcript(heap: Global, calls: &[u8]) -> Result<String, AllocError>
     ensures lines { IfOk result (λ text. IsTranscript calls.now (string_bytes text)) }
     ensures one { OneTranscript }
@@ -19,7 +20,15 @@ pub fn transcript(heap: Global, calls: &[u8]) -> Result<String, AllocError>
     ensures cut { Cut }
     ensures right { EachRight }
 {
-    let mut session = Session::open(heap)?;
+    answer_all(heap, Session::open(heap)?, calls)
+}
+
+// The answers of a session to the calls that a file holds.
+#[tactic(auto, using(crate::proofs::Lines::steps))]
+fn answer_all(heap: Global, session: Session, calls: &[u8]) -> Result<String, AllocError>
+    ensures { IfOk result (λ text. Answers (estate_at session) calls.now (string_bytes text)) }
+{
+    let mut session = session;
     let mut text = String::new(heap);
     for bytes in Calls(calls) {
         let answer = session.answer(heap, bytes)?;
