@@ -1,5 +1,5 @@
 -- What is true of audits. The contract of `audit` names each. Assumes nothing.
-use Rattle.std.specs.Prelude.{◌≡◌, ℕ, ◌*◌, ◌≤◌, true, List, [], ◌∷◌, ◌++◌, length, Ok, sum}
+use Rattle.std.specs.Prelude.{◌≡◌, ℕ, ◌*◌, ◌≤◌, true, List, ◌++◌, length, Ok, sum}
 use Rattle.estate.specs.Calls.{shares}
 use Rattle.estate.specs.Division.{divides}
 use Rattle.estate.specs.Estates.{Estate, counted, Within}

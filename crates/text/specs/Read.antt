@@ -1,5 +1,5 @@
 -- What a line is as numbers, and as shares. Assumes nothing.
-use Rattle.std.specs.Prelude.{◌≡◌, ℕ, ◌≤◌, ◌+◌, ◌-◌, ◌*◌, ◌^◌, Bool, ◌&&◌, ◌||◌, if◌then◌else◌, List, [], ◌∷◌, ◌++◌, length, drop, Some, None, Ok, Err, Option, Result, is_some, unwrap_or, nat_lt, nat_le, ◌==◌}
+use Rattle.std.specs.Prelude.{◌≡◌, ℕ, ◌+◌, ◌-◌, ◌*◌, ◌^◌, Bool, ◌&&◌, ◌||◌, if◌then◌else◌, List, [], ◌∷◌, ◌++◌, drop, Some, None, Ok, Err, Option, Result, is_some, unwrap_or, nat_lt, nat_le, ◌==◌}
 use Rattle.text.specs.declared.reading.ShareLine.{ShareLine}
 use Rattle.text.specs.declared.reading.ReadError.{ReadError}
 use Rattle.text.specs.declared.reading.ReadError.TheVariants.{Misfit, OutOfMemory}

@@ -1,5 +1,5 @@
 -- What a desk answers to a row of calls, and that as text. Assumes nothing.
-use Rattle.std.specs.Prelude.{◌≡◌, ℕ, List, [], ◌∷◌, ◌++◌}
+use Rattle.std.specs.Prelude.{◌≡◌, ℕ, List, [], ◌∷◌}
 use Rattle.std.specs.List.{flat_map}
 use Rattle.estate.specs.Answers.{Answer}
 use Rattle.estate.specs.Calls.{Call}
