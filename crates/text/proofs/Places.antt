@@ -1,21 +1,9 @@
 -- The place that is answered of numbers that cannot be read is that of the first byte that does not fit. Assumes nothing.
 use Rattle.std.proofs.Common.{◌≡◌, ℕ, suc, ◌+◌, ◌<◌, List, [], ◌∷◌, ◌++◌, length, take, Some, None, Ok, Err, Option, refl, sym, ap, ◌∙◌, subst, arith}
 use mathlib.Core.Logic.{inl, inr}
-use Rattle.std.proofs.lemmas.Bool.{cases_Bool, false≢true}
-use Rattle.std.specs.Result.{result_err, result_unwrap_or}
-use Rattle.std.specs.Prelude.{is_ok, unwrap_or}
+use Rattle.std.proofs.lemmas.Bool.{cases_Bool}
 use Rattle.text.specs.Laws.{FirstMisfit, MisfitsFirst}
 use Rattle.text.specs.Read.{Reading, is_blank, grown, grows, so_far, closed, numbers_from, numbers_of}
-
--- what is read of no value and of one place only
-no_error : {A : Type 0} (r : Reading A) (x : A) (p : ℕ) → r ≡ Ok x → r ≡ Err p → ⊥
-no_error r x p value error = false≢true (ap is_ok (sym error ∙ value))
-
-one_place : {A : Type 0} (r : Reading A) (k p : ℕ) → r ≡ Err k → r ≡ Err p → k ≡ p
-one_place r k p this that = ap (λ s. unwrap_or (result_err s) 0) (sym this ∙ that)
-
-pub one_value : {A : Type 0} (r : Reading A) (x y : A) → r ≡ Ok x → r ≡ Ok y → x ≡ y
-one_value r x y this that = ap (λ s. result_unwrap_or s x) (sym this ∙ that)
 
 -- What a reader that is at a place reads of some bytes, and that place p is where it stops.
 abbrev pub Readable : {A : Type 0} → (List ℕ → Reading A) → Type 0
@@ -28,7 +16,8 @@ Stops read at bs p = (k : ℕ) × (p ≡ at + k) × FirstMisfit read bs k
 module _ {A : Type 0} (read : List ℕ → Reading A) (at p : ℕ) where
   pub stops_here : (bs : List ℕ) → Readable read → (0 < length bs → (rest : List ℕ) → read (take 1 bs ++ rest) ≡ Err at) → read bs ≡ Err at → read bs ≡ Err p → Stops read at bs p
   stops_here bs some none here e =
-      (0, omega (arith, one_place _ at p here e), record { within = omega arith; before = some; with_it = λ less rest x f. no_error _ x at f (none less rest) })
+      let same : at ≡ p = cc in
+      (0, omega arith, record { within = omega arith; before = some; with_it = λ less rest x f. cc (none less rest) })
 
   pub stops_later : (next : List ℕ → Reading A) (b : ℕ) (bs : List ℕ) → ((rest : List ℕ) → read (b ∷ rest) ≡ next rest) → Stops next (at + 1) bs p → Stops read at (b ∷ bs) p
   stops_later next b bs same (k, place, m) = (
@@ -52,7 +41,7 @@ module _ {A : Type 0} (made : Reading (List ℕ) → Reading A) (some : (ns : Li
   unfolding numbers_from
   numbers_stop [] at ns begun p e =
       let s = some (closed ns begun) in
-      absurd (no_error _ s.0 p s.1 e)
+      absurd (cc (s.1))
   numbers_stop (b ∷ bs) at ns begun p e =
       elim (cases_Bool (is_blank b)) [
         | inl h ↦ stops_later _ at p (λ cs. made (numbers_from (at + 1) (closed ns begun) None cs)) b bs (λ rest. rw h refl) (numbers_stop bs (at + 1) (closed ns begun) None p (rw h at e))
