@@ -13,12 +13,11 @@ use Rattle.estate.specs.Right.{says}
 use Rattle.wire.specs.Bytes.{Fitting}
 use Rattle.wire.proofs.Bytes.{fitting_more}
 use Rattle.text.proofs.Back.{numbers_back, shares_back}
-use Rattle.text.proofs.Places.{one_value}
 use Rattle.auditing.proofs.Feeds.{one_line-spaced, one_line-parts, in_lines, last_line}
 use Rattle.shares.specs.Pairs.{Answered, Verdict}
 use Rattle.shares.proofs.EachTwo.{accepts_divisions, one_verdict, only_divisions}
 use Rattle.text.specs.Read.{Reading, numbers_of, shares_of}
-use Rattle.auditing.specs.Audits.{blank_behind, Checked, HasMore, IsAudited}
+use Rattle.auditing.specs.Audits.{blank_behind, Checked, HasBoth, HasMore, IsAudited}
 use Rattle.text.specs.Printed.{as_line, spaced, answer_text}
 use Rattle.auditing.specs.Laws.{printed, OneFinding, DesksPass, RightDivides}
 use Rattle.auditing.specs.Texts.{blank_lines, first_line, rest_of}
@@ -54,11 +53,14 @@ in_text text TooMany (cs, e, more) =
     rw (e, above) refl
 in_text text (SharesMisfit p) (cs, claims, e) = rw (claims.read, served cs claims.few, e) refl
 in_text text (Line n) (k, m, line) =
-    rw (m.has_claims.read, served m.claims m.has_claims.few, m.has_shares.read, m.more) (ap Line line)
+    let b = m.lines in
+    rw (b.has_claims.read, served b.claims b.has_claims.few, b.has_shares.read, m.more) (ap Line line)
 in_text text (Wrong fault) c =
-    rw (c.has_claims.read, served c.claims c.has_claims.few, c.has_shares.read, c.ends) (Err fault, c.verdict, refl)
+    let b = c.lines in
+    rw (b.has_claims.read, served b.claims b.has_claims.few, b.has_shares.read, c.ends) (Err fault, c.verdict, refl)
 in_text text Right c =
-    rw (c.has_claims.read, served c.claims c.has_claims.few, c.has_shares.read, c.ends) (Ok tt, c.verdict, refl)
+    let b = c.lines in
+    rw (b.has_claims.read, served b.claims b.has_claims.few, b.has_shares.read, c.ends) (Ok tt, c.verdict, refl)
 
 one_found : (claims : Reading (List ℕ)) (many : Bool) (shares : Reading (ℕ × List ℕ)) (ends : Option ℕ) (f g : Finding) → Found claims many shares ends f → Found claims many shares ends g → f ≡ g
 one_found (Err p) many shares ends f g this that = this ∙ sym that
@@ -103,32 +105,26 @@ desks_pass e f within few found = printed_passes e within f few (in_text (printe
 pub right_divides : RightDivides
 unfolding RightDivides
 right_divides text d e cs xs found claims shares whole =
-    let same : found.claims ≡ cs = one_value _ _ _ found.has_claims.read claims.read in
-    let parted : (found.d, found.shares) ≡ (d, xs) = one_value _ _ _ found.has_shares.read shares.read in
-    only_divisions d e cs xs (rw (sym same, sym (ap (λ p. p.0) parted), sym (ap (λ p. p.1) parted)) found.verdict) whole
+    let same : found.lines.claims ≡ cs = cc in
+    let parted : ◌≡◌ {A = ℕ × List ℕ} (found.lines.d, found.lines.shares) (d, xs) = cc in
+    only_divisions d e cs xs (rw (same, ap (λ p. p.0) parted, ap (λ p. p.1) parted) at found.verdict) whole
 
 -- what is found of claims and shares that were read
 module _ (text cs : List ℕ) (d : ℕ) (xs : List ℕ) (claims : numbers_of (first_line text) ≡ Ok cs) (few : length cs ≤ most_served) (shares : shares_of (first_line (rest_of text)) ≡ Ok (d, xs)) where
-  pub found_more : (n : ℕ) → blank_behind text ≡ Some n → HasMore text n
-  found_more n more = record {
+  abbrev both : HasBoth text
+  both = record {
     claims = cs;
     d = d;
     shares = xs;
     has_claims = record { read = claims; few = few };
     has_shares = record { read = shares };
-    more = more;
   }
 
+  pub found_more : (n : ℕ) → blank_behind text ≡ Some n → HasMore text n
+  found_more n more = record { lines = both; more = more }
+
   pub found_checked : (r s : Answered) → blank_behind text ≡ None → Verdict d cs xs r → r ≡ s → Checked text s
-  found_checked r s ends verdict same = record {
-    claims = cs;
-    d = d;
-    shares = xs;
-    has_claims = record { read = claims; few = few };
-    has_shares = record { read = shares };
-    ends = ends;
-    verdict = rw (sym same) verdict;
-  }
+  found_checked r s ends verdict same = record { lines = both; ends = ends; verdict = rw (sym same) verdict }
 
 pub ruleset found = (found_more, found_checked)
 

@@ -22,23 +22,23 @@ pub record HasShares (text : List ℕ) (d : ℕ) (xs : List ℕ) : Type 0 where
 abbrev pub blank_behind : List ℕ → Option ℕ
 blank_behind text = blank_lines 0 (rest_of (rest_of text))
 
--- a text of claims, shares and nothing else, and what the check of these answers
-pub record Checked (text : List ℕ) (answer : Answered) : Type 0 where
+-- a text begins with these two lines
+pub record HasBoth (text : List ℕ) : Type 0 where
   pub claims : List ℕ
   pub d : ℕ
   pub shares : List ℕ
   pub has_claims : HasClaims text claims
   pub has_shares : HasShares text d shares
-  pub ends : blank_behind text ≡ None
-  pub verdict : Verdict d claims shares answer
 
--- a text of claims and shares, and so many blank lines behind them before one that is not
+-- nothing but blank lines is behind them, and this is what the check of them answers
+pub record Checked (text : List ℕ) (answer : Answered) : Type 0 where
+  pub lines : HasBoth text
+  pub ends : blank_behind text ≡ None
+  pub verdict : Verdict lines.d lines.claims lines.shares answer
+
+-- so many blank lines are behind them, and then one that is not
 pub record HasMore (text : List ℕ) (n : ℕ) : Type 0 where
-  pub claims : List ℕ
-  pub d : ℕ
-  pub shares : List ℕ
-  pub has_claims : HasClaims text claims
-  pub has_shares : HasShares text d shares
+  pub lines : HasBoth text
   pub more : blank_behind text ≡ Some n
 
 -- What is found: in this order.
