@@ -23,7 +23,7 @@ use Rattle.wire.specs.declared.refusals.Refusal.TheVariants.{NotLent}
 use Rattle.wire.proofs.Bytes.{length-row}
 use Rattle.desk.specs.Memory.{estate_of, Stands, Lent}
 use Rattle.desk.specs.Steps.{Parted, Termed, Sends, Does}
-use Rattle.desk.specs.Calling.{is_refused, Served, SameBounds, Told, Called}
+use Rattle.desk.specs.Calling.{is_refused, Served, SameBounds, Told, Replied, Called}
 use Rattle.desk.specs.Opening.{refusal}
 use Rattle.desk.proofs.Words.{claims_counted}
 use Rattle.desk.proofs.Keeping.{unchanged}
@@ -33,11 +33,16 @@ pub not_alone : (c : Call) (X : Type 0) → first_refusal (checks_alone c) ≡ 0
 not_alone c X none f = absurd (false≢true (sym (rw none at f)))
 
 module _ (m out : List ℕ) (lent : Lent m out) where
+  -- what is said of the answer to a call that is not turned away by itself
+  replied : (c : Call) (new : List ℕ) (a : Answer) → first_refusal (checks_alone c) ≡ 0 → (Stands m → Served c m new a) → Told c m new a → SameBounds m new → Replied c m new out a
+  replied c new a none served told bounds =
+      record { served = λ d l. served d; unlent = λ un. absurd (un lent); alone = not_alone c _ none; told = λ l. told; bounds = bounds }
+
   -- an answer that is no refusal, and for which there is room
   answered_by : (c : Call) (new sent : List ℕ) (a : Answer) (r : Result ℕ TurnedAway) → first_refusal (checks_alone c) ≡ 0 → is_refused a ≡ false → length (answer_row a) ≤ length out → (Stands m → Served c m new a) → Told c m new a → SameBounds m new → Sends a out sent r → Called c m new out sent r
   unfolding Sends Called
   answered_by c new sent a (Ok n) none plain room served told bounds w =
-      (a, (w.0, w.1, plain), record { served = λ d l. served d; unlent = λ un. absurd (un lent); alone = not_alone c _ none; told = λ l. told; bounds = bounds }, tt)
+      (a, (w.0, w.1, plain), replied c new a none served told bounds, tt)
   answered_by c new sent a (Err t) none plain room served told bounds w = let no_room : ⊥ = omega (arith, room, w) in absurd no_room
 
   pub number_done : (c : Call) (new sent : List ℕ) (n : ℕ) (r : Result ℕ TurnedAway) → first_refusal (checks_alone c) ≡ 0 → Does c m new (Ok n) → Sends (number n) out sent r → Called c m new out sent r
@@ -48,7 +53,7 @@ module _ (m out : List ℕ) (lent : Lent m out) where
   pub number_refused : (c : Call) (new : List ℕ) (t : TurnedAway) → first_refusal (checks_alone c) ≡ 0 → Does c m new (Err t) → Called c m new out out (Err t)
   unfolding Does Called
   number_refused c new t none d =
-      (refusal t, (refl, refl), record { served = λ s l. d.0 s; unlent = λ un. absurd (un lent); alone = not_alone c _ none; told = λ l. d.1; bounds = d.3 }, d.2)
+      (refusal t, (refl, refl), replied c new (refusal t) none d.0 d.1 d.3, d.2)
 
   -- the shares of the claims, on the terms of the division
   module _ (s : Shares) (parted : Parted m s) where
@@ -91,7 +96,7 @@ module _ (m out : List ℕ) (lent : Lent m out) where
       unfolding Called
       cents_failed why v is lost =
           let served : Stands m → Served cents m m (refusal v) = λ d. absurd (rw is at (paid d)) in
-          (refusal v, (refl, refl), record { served = λ d l. served d; unlent = λ un. absurd (un lent); alone = not_alone cents _ refl; told = λ l. (refl, inr (rw lost refl)); bounds = unchanged m }, refl)
+          (refusal v, (refl, refl), replied cents m (refusal v) refl served (refl, inr (rw lost refl)) (unchanged m), refl)
 
 pub ruleset answers = (number_done, number_refused, shares_done)
 

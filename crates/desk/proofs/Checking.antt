@@ -18,7 +18,7 @@ use Rattle.wire.proofs.Narrow.{narrow_enough}
 use Rattle.desk.specs.Memory.{limits_of, estate_of, Headed, Lent}
 use Rattle.desk.specs.Calling.{Told, AsTold, Called, turned_unlent}
 use Rattle.desk.specs.Opening.{refusal}
-use Rattle.desk.proofs.Keeping.{refused_by, kept_told, unchanged}
+use Rattle.desk.proofs.Keeping.{refused_by, refused_told, unchanged}
 use Rattle.desk.proofs.Words.{claims_counted}
 use Rattle.desk.proofs.Answering.{not_alone}
 
@@ -75,16 +75,6 @@ turned_alone l e (garbled n) f = refl
 pub answered_alone : (l : Limits) (e : Estate) (c : Call) → (first_refusal (checks_alone c) == 0) ≡ false → answered l e c ≡ turned_unlent c
 answered_alone l e c f = rw (turned_alone l e c f, f) refl
 
--- shares and cents change nothing, and the others do as the definitions have it
-pub told_of : (c : Call) (m new : List ℕ) (a : Answer) → AsTold c m new a → ((c ≡ shares) ⊎ (c ≡ cents) → new ≡ m) → Told c m new a
-unfolding says
-told_of (claims c) m new a t s = t
-told_of (proves i c) m new a t s = inl t
-told_of (comes x) m new a t s = t
-told_of shares m new a t s = (s (inl refl), _, _, t.0)
-told_of cents m new a t s = (s (inr refl), inl (_, t.0))
-told_of (garbled n) m new a t s = t
-
 turned_away : (c : Call) (m out : List ℕ) (t : TurnedAway) → (first_refusal (checks_alone c) == 0) ≡ false → refusal t ≡ refused (first_refusal (checks_alone c)) (place c (first_refusal (checks_alone c))) → Called c m m out out (Err t)
 unfolding Called
 turned_away c m out t f is =
@@ -92,10 +82,10 @@ turned_away c m out t f is =
       refusal t,
       (refl, refl),
       record {
-        served = λ d l. refused_by c m _ (rw n f) (rw n is) d;
+        served = λ d l. refused_by c m _ _ f n is d;
         unlent = λ un. rw f is;
         alone = λ f. rw f is;
-        told = λ l. told_of c m m _ (kept_told c m _ (rw n f) (rw n is)) (λ s. refl);
+        told = λ l. refused_told c m _ _ f n is;
         bounds = unchanged m;
       },
       refl,

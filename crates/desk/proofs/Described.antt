@@ -29,7 +29,8 @@ use Rattle.desk.specs.Memory.{words_asked, bytes_asked, limits_of, estate_of, re
 use Rattle.desk.specs.Calling.{is_refused, Given, Called}
 use Rattle.desk.specs.Promises.{DescribedObeys}
 use Rattle.desk.proofs.Words.{limits_read, estate_read, rest_read}
-use Rattle.desk.proofs.Checking.{answered_alone, told_of}
+use Rattle.desk.proofs.Keeping.{told_of}
+use Rattle.desk.proofs.Checking.{answered_alone}
 use Rattle.desk.proofs.Promised.{fair_after}
 
 -- what turns a call away has a name

@@ -3,11 +3,11 @@ use Rattle.std.proofs.Common.{◌≡◌, ℕ, false, ◌==◌, ◌+◌, ◌*◌,
 use borrow.Rule.Slice.PartMut.{put_mid}
 use Rattle.std.proofs.lemmas.List.{places, take-append-drop, take-take, length_push, drop-set-lt, length-set, length-take-le, length-drop}
 use Rattle.std.proofs.lemmas.Slice.{drop-put_mid}
-use mathlib.Core.Logic.{inl, inr}
+use mathlib.Core.Logic.{◌⊎◌, inl, inr}
 use Rattle.std.proofs.lemmas.Bool.Decides.{nat_tests}
 use Rattle.estate.specs.Answers.{Answer, number, refused}
-use Rattle.estate.specs.Refusals.{turned, place}
-use Rattle.estate.specs.Calls.{Call, claims, proves, comes}
+use Rattle.estate.specs.Refusals.{not_there, no_room, turned, place}
+use Rattle.estate.specs.Calls.{Call, claims, proves, comes, shares, cents, garbled}
 use Rattle.estate.specs.Changes.{changed}
 use Rattle.estate.specs.Limits.{most_cents, most_there}
 use Rattle.estate.specs.Right.{says}
@@ -20,7 +20,7 @@ use Rattle.wire.specs.declared.refusals.TurnedAway.{TurnedAway}
 use Rattle.wire.specs.declared.refusals.Refusal.TheVariants.{NoRoom, NotThere}
 use Rattle.desk.specs.Memory.{header_words, rows, words_asked, layout, limits_of, estate_of, rest_of, Headed, Stands}
 use Rattle.desk.specs.Steps.{Grown, Full, Altered, Unaltered, Does}
-use Rattle.desk.specs.Calling.{Served, SameBounds, AsTold}
+use Rattle.desk.specs.Calling.{Served, SameBounds, AsTold, Told}
 use Rattle.desk.proofs.Words.{claims_counted, put_below, comes_told, claims_told, proves_told, rows_added, rows_changed, rows_ordered, comes_writes, claims_writes, proves_writes, body}
 
 -- a call that is not turned away, of a desk
@@ -30,12 +30,23 @@ served_by c m new a t w s = record { memory = rw t w; answer = rw t s }
 told_by : (c : Call) (m new : List ℕ) (a : Answer) → turned (limits_of m) (estate_of m) c ≡ 0 → estate_of new ≡ changed (estate_of m) c → a ≡ says (estate_of m) c → AsTold c m new a
 told_by c m new a t w s = (rw t s, rw t w)
 
--- a call that is turned away
-pub refused_by : (c : Call) (m : List ℕ) (a : Answer) → (turned (limits_of m) (estate_of m) c == 0) ≡ false → a ≡ refused (turned (limits_of m) (estate_of m) c) (place c (turned (limits_of m) (estate_of m) c)) → Stands m → Served c m m a
-refused_by c m a t s d = record { memory = rw t d.laid; answer = rw t s }
+-- shares and cents change nothing, and the others do as the definitions have it
+pub told_of : (c : Call) (m new : List ℕ) (a : Answer) → AsTold c m new a → ((c ≡ shares) ⊎ (c ≡ cents) → new ≡ m) → Told c m new a
+unfolding says
+told_of (claims c) m new a t s = t
+told_of (proves i c) m new a t s = inl t
+told_of (comes x) m new a t s = t
+told_of shares m new a t s = (s (inl refl), _, _, t.0)
+told_of cents m new a t s = (s (inr refl), inl (_, t.0))
+told_of (garbled n) m new a t s = t
 
-pub kept_told : (c : Call) (m : List ℕ) (a : Answer) → (turned (limits_of m) (estate_of m) c == 0) ≡ false → a ≡ refused (turned (limits_of m) (estate_of m) c) (place c (turned (limits_of m) (estate_of m) c)) → AsTold c m m a
-kept_told c m a t s = (rw t s, rw t refl)
+-- a call that is turned away, by number n
+module _ (c : Call) (m : List ℕ) (a : Answer) (n : ℕ) (some : (n == 0) ≡ false) (t : turned (limits_of m) (estate_of m) c ≡ n) (is : a ≡ refused n (place c n)) where
+  pub refused_by : Stands m → Served c m m a
+  refused_by d = record { memory = rw (t, some) d.laid; answer = rw (t, some) is }
+
+  pub refused_told : Told c m m a
+  refused_told = told_of c m m a (rw (t, some) is, rw (t, some) refl) (λ s. refl)
 
 pub unchanged : (m : List ℕ) → SameBounds m m
 unchanged m = record { limit = refl; rest = refl }
@@ -58,12 +69,9 @@ module _ (m : List ℕ) (there : ℕ) (is_there : there ≡ slice_index m 1) (he
 
   pub come_full : (x : ℕ) (t : TurnedAway) → x ≤ most_cents → most_there < there + x → t ≡ record { why = NoRoom; place = 0 } → Does (comes x) m m (Err t)
   unfolding Does
-  come_full x t few full is = (
-    refused_by (comes x) m _ (grind (arith, nat_tests)) (rw is (grind (arith, nat_tests))),
-    kept_told (comes x) m _ (grind (arith, nat_tests)) (rw is (grind (arith, nat_tests))),
-    refl,
-    unchanged m,
-  )
+  come_full x t few full is =
+      let n : turned (limits_of m) (estate_of m) (comes x) ≡ no_room = grind (arith, nat_tests) in
+      (refused_by (comes x) m _ _ refl n (rw is refl), refused_told (comes x) m _ _ refl n (rw is refl), refl, unchanged m)
 
 -- memory whose header says the limit and how many claims there are, of which so many words are the ledger
 module _ (m : List ℕ) (limit count k : ℕ) (is_limit : limit ≡ slice_index m 0) (is_count : count ≡ slice_index m 2) (span : k ≡ 3 * limit) (headed : Headed m) where
@@ -126,12 +134,8 @@ module _ (m : List ℕ) (limit count k : ℕ) (is_limit : limit ≡ slice_index 
       let n = count_is in
       let same : put_mid header_words k m part ≡ m = rw e.1 unwritten in
       let full : limit ≤ count = omega (arith, part_room, e.0) in
-      rw same (
-        refused_by (claims c) m _ (grind (arith, nat_tests, is_limit)) (rw is (grind (arith, nat_tests, is_limit))),
-        kept_told (claims c) m _ (grind (arith, nat_tests, is_limit)) (rw is (grind (arith, nat_tests, is_limit))),
-        refl,
-        unchanged m,
-      )
+      let k : turned (limits_of m) (estate_of m) (claims c) ≡ no_room = grind (arith, nat_tests, is_limit) in
+      rw same (refused_by (claims c) m _ _ refl k (rw is refl), refused_told (claims c) m _ _ refl k (rw is refl), refl, unchanged m)
 
   pub prove_done : (i x c : ℕ) (part : List ℕ) → Altered count i c part0 part → c ≤ most_cents → x ≡ i → Does (proves i c) m (put_mid header_words k m part) (Ok x)
   unfolding says Does Altered Amends
@@ -163,7 +167,10 @@ module _ (m : List ℕ) (limit count k : ℕ) (is_limit : limit ≡ slice_index 
       let n = count_is in
       let same : put_mid header_words k m part ≡ m = rw b.1 unwritten in
       rw same (
-        λ s. let none = missing i s why b.0 in refused_by (proves i c) m _ (grind (arith, nat_tests)) (rw is (grind (arith, nat_tests))) s,
+        λ s.
+            let none = missing i s why b.0 in
+            let k : turned (limits_of m) (estate_of m) (proves i c) ≡ not_there = grind (arith, nat_tests) in
+            refused_by (proves i c) m _ _ refl k (rw is refl) s,
         inr (rw is refl, refl),
         refl,
         unchanged m,
