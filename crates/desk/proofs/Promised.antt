@@ -23,12 +23,11 @@ use Rattle.desk.proofs.Words.{count_read, long_enough, limits_read, estate_read,
 
 -- a desk stands where it was laid
 module _ (l : Limits) (e : Estate) (rest : List ℕ) (f : Fair l e) where
+  reads : (limits_of (layout l e ++ rest) ≡ l) × (estate_of (layout l e ++ rest) ≡ e) × (rest_of (layout l e ++ rest) ≡ rest)
+  reads = (limits_read l.creditors e rest f.few, estate_read l.creditors e rest f.few, rest_read l.creditors e rest f.few)
+
   pub stands : Stands (layout l e ++ rest)
-  stands =
-      let n = limits_read l.creditors e rest f.few in
-      let k = estate_read l.creditors e rest f.few in
-      let r = rest_read l.creditors e rest f.few in
-      record { fair = rw (n, k) f; laid = rw (n, k, r) refl }
+  stands = let (n, t, r) = reads in record { fair = rw (n, t) f; laid = rw (n, t, r) refl }
 
 -- a call that is not turned away leaves an estate within the limits
 fair_changed : (l : Limits) (e : Estate) (c : Call) → (turned l e c == 0) ≡ true → Fair l e → Fair l (changed e c)
@@ -95,10 +94,6 @@ lent_enough m out s enough =
       bytes = enough;
     }
 
--- what was done to memory, said of the estate that stood in it
-served_is : (l : Limits) (e : Estate) (rest : List ℕ) (c : Call) (m new : List ℕ) (a : Answer) → limits_of m ≡ l → estate_of m ≡ e → rest_of m ≡ rest → Served c m new a → (new ≡ layout l (after l e c) ++ rest) × (a ≡ answered l e c)
-served_is l e rest c m new a n t r v = rw (sym n, sym t, sym r) (v.memory, v.answer)
-
 -- a call that is turned away leaves the estate
 after-turned : (l : Limits) (e : Estate) (c : Call) → 0 < turned l e c → after l e c ≡ e
 after-turned l e c h = let t : (turned l e c == 0) ≡ false = grind (arith, nat_tests) in rw t refl
@@ -117,10 +112,8 @@ module _ (k : Desk) (o : Obeys k) where
     goes_on : (e : Estate) (m : Memory) (c : Call) → Fair l e → m.words ≡ layout l e ++ rest → ((k.next m c).words ≡ layout l (after l e c) ++ rest) × (k.says m c ≡ answered l e c)
     goes_on e m c f w =
         let v = served m c (subst Stands (sym w) (stands l e rest f)) in
-        let n = ap limits_of w ∙ limits_read l.creditors e rest f.few in
-        let t = ap estate_of w ∙ estate_read l.creditors e rest f.few in
-        let r = ap rest_of w ∙ rest_read l.creditors e rest f.few in
-        served_is l e rest c m.words (k.next m c).words (k.says m c) n t r v
+        let (n, t, r) = reads l e rest f in
+        rw (sym (ap limits_of w ∙ n), sym (ap estate_of w ∙ t), sym (ap rest_of w ∙ r)) (v.memory, v.answer)
 
     all_served : (e : Estate) (m : Memory) (cs : List Call) → Fair l e → m.words ≡ layout l e ++ rest → all_right k l m e cs
     unfolding all_right
@@ -152,13 +145,9 @@ refusals_keep k o l cs c few turned =
 
 pub one_estate : OneEstate
 one_estate l k e f rest more fair also same =
-    let n = limits_read l.creditors e rest fair.few in
-    let t = estate_read l.creditors e rest fair.few in
-    let r = rest_read l.creditors e rest fair.few in
-    let n' = limits_read k.creditors f more also.few in
-    let t' = estate_read k.creditors f more also.few in
-    let r' = rest_read k.creditors f more also.few in
-    (sym n ∙ ap limits_of same ∙ n', sym t ∙ ap estate_of same ∙ t', sym r ∙ ap rest_of same ∙ r')
+    let (n, t, r) = reads l e rest fair in
+    let (m, u, s) = reads k f more also in
+    (sym n ∙ ap limits_of same ∙ m, sym t ∙ ap estate_of same ∙ u, sym r ∙ ap rest_of same ∙ s)
 
 pub new_desk : NewDesk
 unfolding NewDesk

@@ -1,8 +1,8 @@
 -- The words of a desk: what is read of them, and what each call writes. All that opens the layout stands here. Assumes
 -- nothing.
-use Rattle.std.proofs.Common.{◌≡◌, ℕ, ◌+◌, ◌*◌, ◌<◌, ◌≤◌, List, [], ◌∷◌, ◌++◌, length, take, drop, replicate, slice_set, sym, refl, ◌∙◌, arith, append_assoc, length-append, slice_index}
+use Rattle.std.proofs.Common.{◌≡◌, ℕ, ◌+◌, ◌*◌, ◌<◌, ◌≤◌, List, [], ◌∷◌, ◌++◌, length, take, drop, replicate, slice_set, sym, refl, ◌∙◌, arith, append_assoc, length-append, ap, slice_index}
 use borrow.Rule.Slice.PartMut.{put_mid}
-use Rattle.std.proofs.lemmas.List.{places, replicate-append-replicate, length-replicate, drop_at, length-take-le, length-drop, drop-set-lt, take-append-le, get_or-set_same, get_or-set_other}
+use Rattle.std.proofs.lemmas.List.{places, replicate-append-replicate, length-replicate, take_at, drop_at, length-take-le, length-drop, drop-set-lt, take-append-le, get_or-set_same, get_or-set_other}
 use Rattle.std.proofs.lemmas.Grind.{common_steps}
 use Rattle.estate.specs.Order.{sorted}
 use Rattle.estate.specs.Estates.{Estate, new_estate, with_there, with_claimed}
@@ -25,20 +25,6 @@ opened n w ws m e room z =
     let k : length (take w m) ≡ w = grind (arith, places) in
     rw (z, k, e, zeros n, starts (replicate (3 * n) 0)) refl
 
--- three lists, the first two of known lengths
-module _ (xs ys zs : List ℕ) (a k : ℕ) (one : length xs ≡ a) (two : length ys ≡ k) where
-  take-first : take a ((xs ++ ys) ++ zs) ≡ xs
-  take-first = grind (arith, common_steps)
-
-  take-drop-second : take k (drop a ((xs ++ ys) ++ zs)) ≡ ys
-  take-drop-second = grind (arith, common_steps)
-
-  drop-drop-third : drop k (drop a ((xs ++ ys) ++ zs)) ≡ zs
-  drop-drop-third = grind (arith, common_steps)
-
-  drop-third : drop (a + k) ((xs ++ ys) ++ zs) ≡ zs
-  drop-third = grind (arith, common_steps)
-
 room-zeros : (n : ℕ) → room (replicate (3 * n) 0) ≡ n
 room-zeros n = let z = length-replicate {A = ℕ} (3 * n) 0 in omega arith
 
@@ -54,36 +40,31 @@ module _ (n : ℕ) (e : Estate) (rest : List ℕ) (few : length e.claimed ≤ n)
       let m = room-zeros n in
       ledger_long (replicate (3 * n) 0) e.claimed (omega arith) ∙ length-replicate {A = ℕ} (3 * n) 0
 
-  pub body : take (3 * n) (drop header_words (layout (limits_for n) e ++ rest)) ≡ rows (limits_for n) e
-  unfolding layout
-  body = take-drop-second (header (limits_for n) e) (rows (limits_for n) e) rest _ _ length-header length-rows
-
-  pub behind : drop (words_asked n) (layout (limits_for n) e ++ rest) ≡ rest
-  unfolding layout
-  behind = drop-third (header (limits_for n) e) (rows (limits_for n) e) rest _ _ length-header length-rows
-
-  pub put : (part : List ℕ) → put_mid header_words (3 * n) (layout (limits_for n) e ++ rest) part ≡ header (limits_for n) e ++ (part ++ rest)
-  unfolding layout
-  put part =
-      let front = take-first (header (limits_for n) e) (rows (limits_for n) e) rest _ _ length-header length-rows in
-      let back = drop-drop-third (header (limits_for n) e) (rows (limits_for n) e) rest _ _ length-header length-rows in
-      rw (front, back) refl
-
   laid : header (limits_for n) e ++ (rows (limits_for n) e ++ rest) ≡ layout (limits_for n) e ++ rest
   unfolding layout
   laid = sym (append_assoc (header (limits_for n) e) (rows (limits_for n) e) rest)
 
--- a ledger begins with the claims as they came
-module _ (n : ℕ) (e : Estate) (few : length e.claimed ≤ n) where
-  as_they_came : (rest : List ℕ) → take (length e.claimed) (rows (limits_for n) e ++ rest) ≡ e.claimed
-  unfolding rows
-  as_they_came rest = grind (arith, common_steps)
-
--- what is read
-module _ (n : ℕ) (e : Estate) (rest : List ℕ) (few : length e.claimed ≤ n) where
   behind_header : drop header_words (layout (limits_for n) e ++ rest) ≡ rows (limits_for n) e ++ rest
+  behind_header =
+      sym (ap (drop header_words) laid) ∙ drop_at (header (limits_for n) e) (rows (limits_for n) e ++ rest) header_words length-header
+
+  pub body : take (3 * n) (drop header_words (layout (limits_for n) e ++ rest)) ≡ rows (limits_for n) e
+  body = ap (take (3 * n)) behind_header ∙ take_at (rows (limits_for n) e) rest (3 * n) length-rows
+
+  behind : drop (words_asked n) (layout (limits_for n) e ++ rest) ≡ rest
   unfolding layout
-  behind_header = rw (append_assoc (header (limits_for n) e) (rows (limits_for n) e) rest) (drop_at (header (limits_for n) e) (rows (limits_for n) e ++ rest) header_words (length-header n e rest few))
+  behind = grind (arith, common_steps, length-header, length-rows)
+
+  pub put : (part : List ℕ) → put_mid header_words (3 * n) (layout (limits_for n) e ++ rest) part ≡ header (limits_for n) e ++ (part ++ rest)
+  put part =
+      let front = sym (ap (take header_words) laid) ∙ take_at (header (limits_for n) e) (rows (limits_for n) e ++ rest) header_words length-header in
+      let back = ap (drop (3 * n)) behind_header ∙ drop_at (rows (limits_for n) e) rest (3 * n) length-rows in
+      rw (front, back) refl
+
+  -- what is read: a ledger begins with the claims as they came
+  as_they_came : take (length e.claimed) (rows (limits_for n) e ++ rest) ≡ e.claimed
+  unfolding rows
+  as_they_came = grind (arith, common_steps)
 
   limit_read : slice_index (layout (limits_for n) e ++ rest) 0 ≡ n
   unfolding layout header
@@ -98,18 +79,17 @@ module _ (n : ℕ) (e : Estate) (rest : List ℕ) (few : length e.claimed ≤ n)
   count_read = refl
 
   pub estate_read : estate_of (layout (limits_for n) e ++ rest) ≡ e
-  estate_read = rw (there_read, count_read, behind_header, as_they_came n e few rest) refl
+  estate_read = rw (there_read, count_read, behind_header, as_they_came) refl
 
   pub limits_read : limits_of (layout (limits_for n) e ++ rest) ≡ limits_for n
   limits_read = rw limit_read refl
 
   pub rest_read : rest_of (layout (limits_for n) e ++ rest) ≡ rest
-  rest_read = rw limit_read (behind n e rest few)
+  rest_read = rw limit_read behind
 
   pub long_enough : words_asked n ≤ length (layout (limits_for n) e ++ rest)
   unfolding layout
-  long_enough =
-      omega (arith, length-append {A = ℕ}, length-header n e rest few, length-rows n e rest few)
+  long_enough = omega (arith, length-append {A = ℕ}, length-header, length-rows)
 
 -- a ledger after a claim, and after a change; and the tree in it
 module _ (n : ℕ) (e : Estate) (few : length e.claimed ≤ n) where
