@@ -1,8 +1,8 @@
 -- What all claims come to, found going down a tree. Assumes nothing.
-use Rattle.std.proofs.Common.{◌≡◌, ℕ, suc, zero, ◌+◌, ◌-◌, ◌^◌, ◌<◌, ◌≤◌, ltb, List, [], ◌∷◌, length, take, drop, sum, slice_index, length-drop, get_or-drop, refl, sym, ◌∙◌, arith}
-use Rattle.std.proofs.Math.Logic.{⊎_elim}
+use Rattle.std.proofs.Common.{◌≡◌, ℕ, suc, zero, ◌+◌, ◌-◌, ◌^◌, ◌<◌, ◌≤◌, List, [], ◌∷◌, length, take, drop, sum, slice_index, length-drop, get_or-drop, refl, sym, ◌∙◌, arith}
+use mathlib.Core.Logic.{inl, inr}
 use Rattle.std.proofs.Math.Pow.{pow_mono}
-use Rattle.std.proofs.lemmas.Bool.{ltb-true, ltb-false, cond_both, cases_lt}
+use Rattle.std.proofs.lemmas.Bool.{cases_lt}
 use Rattle.std.proofs.lemmas.Bool.Decides.{nat_tests}
 use Rattle.std.proofs.lemmas.List.{length-take, take_rest}
 use Rattle.std.proofs.lemmas.List.Sums.{sum_by-take-drop}
@@ -49,13 +49,13 @@ total_higher : (k h : ℕ) (ws : List ℕ) → h ≤ k → length ws < 2 ^ h →
 unfolding total_in
 total_higher zero h ws low room = let none : h ≡ 0 = omega arith in rw none refl
 total_higher (suc k) h ws low room =
-    ⊎_elim
-    (λ (l : h < suc k).
-    let rest = total_higher k h ws (omega arith) room in
-    let wide = pow_mono {i = h} {j = k} (omega arith) in
-    grind (arith, nat_tests))
-    (λ (g : suc k ≤ h). let same : h ≡ suc k = omega arith in rw same refl)
-    (cases_lt h (suc k))
+    elim (cases_lt h (suc k)) [
+      | inl l ↦
+          let rest = total_higher k h ws (omega arith) room in
+          let wide = pow_mono {i = h} {j = k} (omega arith) in
+          grind (arith, nat_tests)
+      | inr g ↦ let same : h ≡ suc k = omega arith in rw same refl
+    ]
 
 below_pow : (n : ℕ) → n < 2 ^ n
 below_pow zero = omega arith
@@ -64,10 +64,10 @@ below_pow (suc n) = omega (arith, below_pow n)
 pub total_is : (h : ℕ) (ws : List ℕ) → length ws < 2 ^ h → total_in h ws ≡ total_of ws
 unfolding total_of
 total_is h ws room =
-    ⊎_elim
-    (λ (l : h < length ws). sym (total_higher (length ws) h ws (omega arith) room))
-    (λ (g : length ws ≤ h). total_higher h (length ws) ws g (below_pow (length ws)))
-    (cases_lt h (length ws))
+    elim (cases_lt h (length ws)) [
+      | inl l ↦ sym (total_higher (length ws) h ws (omega arith) room)
+      | inr g ↦ total_higher h (length ws) ws g (below_pow (length ws))
+    ]
 
 -- and of the sums over claims it is what these come to
 behind : (h m : ℕ) (ks ws : List ℕ) → m + 1 ≡ 2 ^ h → length ks < 2 ^ suc h → AreSums ks ws → AreSums (drop (m + 1) ks) (drop (m + 1) ws)
@@ -89,7 +89,7 @@ total_sums (suc h) ks ws few t =
     let right = total_sums h (drop (m + 1) ks) (drop (m + 1) ws) (omega (arith, length-drop (m + 1) ks)) (behind h m ks ws is few t) in
     let both : held (slice_index ws m + total_in h (drop (m + 1) ws)) ≡ held (sum ks) = rw (node, right) (held-sum (m + 1) ks) in
     rw is at both in
-    cond_both (ltb (length ws) (2 ^ h)) _ _ (λ (r : ℕ). r ≡ held (sum ks)) (λ t. lower (ltb-true _ _ t)) (λ t. parts (ltb-false _ _ t))
+    grind (arith, nat_tests, lower, parts)
 
 pub total_told : (h r : ℕ) (ws : List ℕ) → IsHeight (length ws) h → Totals h ws r → r ≡ total_of ws
 unfolding Totals IsHeight

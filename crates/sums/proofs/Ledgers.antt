@@ -1,8 +1,8 @@
 -- A ledger keeps its claims, and the sums over those in order. Assumes nothing.
 use Rattle.std.proofs.Common.{◌≡◌, ℕ, ◌+◌, ◌-◌, ◌*◌, ◌/◌, ◌<◌, ◌≤◌, List, [], ◌∷◌, ◌++◌, length, take, drop, set, slice_index, slice_set, min, max, length-append, length-drop, get_or-drop, sum, refl, sym, ap, ◌∙◌, arith}
-use mathlib.Core.Logic.{◌⊎◌, inl, inr}
-use Rattle.std.proofs.Math.Logic.{⊎_elim}
+use mathlib.Core.Logic.{◌⊎◌, inl}
 use Rattle.std.proofs.lemmas.List.{places, take-append-drop, take_at, ext_get_or, length-take-le, get_or-take, get_or-set_other, get_or_append_left, length-set, length_push}
+use Rattle.std.proofs.lemmas.Slice.{drop-append-drop}
 use Rattle.estate.specs.Order.{sorted}
 use Rattle.estate.proofs.Ordered.{length-sorted, rising_sorted}
 use Rattle.register.specs.Row.{part, Carried}
@@ -10,7 +10,7 @@ use Rattle.register.specs.Rows.{middle, kept, over}
 use Rattle.register.proofs.Keeping.{kept_long, kept_middle, kept_order, adds as register_adds, changes as register_changes, never_out_of_order as register_ordered}
 use Rattle.level.specs.Words.{held}
 use Rattle.sums.specs.Nodes.{first, node, sums_of}
-use Rattle.sums.specs.Renewing.{Outside, Renewal}
+use Rattle.sums.specs.Renewing.{Outside}
 use Rattle.sums.specs.Ledger.{room, register, ledger, Resummed}
 use Rattle.sums.specs.Laws.{Starts, Adds, Changes, NeverOutOfOrder, Reads}
 use Rattle.sums.proofs.Nodes.{first_below, sums_are}
@@ -25,13 +25,6 @@ same_node a b j ks ls same k l out =
     let at : first j + i ≤ j = grind (arith, places, first_below j) in
     grind (arith, places)) in
     ap (λ xs. held (sum xs)) part
-
--- sums that are renewed after claims ks have become ls, which are the same before place a and from b on
-resums : (a b : ℕ) (ks ls ws new : List ℕ) → Renewal a b ls ws new → length ws ≡ length ls → ((i : ℕ) → i < length ls → (i < a) ⊎ (b ≤ i) → slice_index ls i ≡ slice_index ks i) → ((j : ℕ) → j < length ls → Outside a b j → (j < length ks) × (slice_index ws j ≡ node ks j)) → new ≡ sums_of ls
-resums a b ks ls ws new r long same old =
-    r.sums long (λ j l out.
-    let was = old j l out in
-    was.1 ∙ sym (same_node a b j ks ls (λ i low. same i (omega arith)) was.0 l out))
 
 -- what stands in the third row
 abbrev row : List ℕ → List ℕ → List ℕ
@@ -68,10 +61,6 @@ unfolding Starts sorted sums_of
 starts us =
     rw (take-append-drop (middle (register us)) (register us)) (take-append-drop (2 * room us) us)
 
--- behind what lies over a row the row is as it was
-drop-over : (n : ℕ) (xs ys : List ℕ) → length xs ≤ n → length xs ≤ length ys → drop n (over xs ys) ≡ drop n ys
-drop-over n xs ys more room = ext_get_or 0 _ _ (grind (arith, places)) (λ k h. grind (arith, places))
-
 -- a ledger whose register has become that of other claims, no fewer, and whose sums are renewed
 module _ (us cs ds : List ℕ) (few : length cs ≤ room us) (fits_too : length ds ≤ room us) (more : length cs ≤ length ds) where
   renewed : (n a b : ℕ) (new : List ℕ) → n ≡ length ds → Resummed n a b (ledger us cs) (kept (register us) ds) new → ((i : ℕ) → i < length ds → (i < a) ⊎ (b ≤ i) → slice_index (sorted ds) i ≡ slice_index (sorted cs) i) → ((j : ℕ) → j < length ds → Outside a b j → j < length cs) → new ≡ ledger us ds
@@ -89,10 +78,14 @@ module _ (us cs ds : List ℕ) (few : length cs ≤ room us) (fits_too : length 
       ap (λ n. take (length ds) (drop n (kept (register us) ds))) (omega (arith, long, half)) ∙ kept_order (register us) ds (omega (arith, half)) in
       let renewal = rw (row_is, order) at r.renewed in
       let sums : r.sums ≡ sums_of (sorted ds) =
-      resums a b (sorted cs) (sorted ds) (take (length ds) (row us cs)) r.sums renewal (length-take-le (length ds) (row us cs) (omega (arith, wide)) ∙ sym long_ds)
-      (λ i l. same i (omega (arith, long_ds)))
-      (λ j l out. let h = old j (omega (arith, long_ds)) out in (omega (arith, long_cs), get_or-take (length ds) (row us cs) j 0 (omega (arith, long_ds)) ∙ get_or_append_left (sums_of (sorted cs)) _ 0 j (omega (arith, sums_cs.long, long_cs)) ∙ sums_cs.nodes j (omega (arith, long_cs)))) in
-      let rest = drop-over (length ds) (sums_of (sorted cs)) (drop (2 * room us) us) (omega (arith, sums_cs.long, long_cs)) (omega (arith, sums_cs.long, long_cs, length-drop (2 * room us) us)) in
+      renewal.sums (length-take-le (length ds) (row us cs) (omega (arith, wide)) ∙ sym long_ds)
+      (λ j l out.
+      let there = old j (omega (arith, long_ds)) out in
+      get_or-take (length ds) (row us cs) j 0 (omega (arith, long_ds))
+      ∙ get_or_append_left (sums_of (sorted cs)) _ 0 j (omega (arith, sums_cs.long, long_cs))
+      ∙ sums_cs.nodes j (omega (arith, long_cs))
+      ∙ sym (same_node a b j (sorted cs) (sorted ds) (λ i low h. same i (omega (arith, long_ds)) h) (omega (arith, long_cs)) l out)) in
+      let rest = drop-append-drop (length (sums_of (sorted cs))) (drop (2 * room us) us) (sums_of (sorted cs)) (length ds) (omega (arith, sums_cs.long, long_cs)) refl in
       let end : length (sums_of (sorted ds)) ≡ length ds = sums_ds.long ∙ long_ds in
       r.words ∙ rw (row_is, sums, rest, end) refl
 
@@ -106,10 +99,11 @@ order_at ws cs i few l =
 
 -- where nothing moved among those in order, the claims there are as they were
 unmoved : (ws cs ds : List ℕ) (p c from to i : ℕ) → length cs ≤ middle ws → length ds ≤ middle ws → p < middle ws → Carried from to c (set (kept ws cs) p c) (kept ws ds) → i < length cs → i < length ds → ((middle ws + i < from) × (middle ws + i < to)) ⊎ ((from < middle ws + i) × (to < middle ws + i)) → slice_index (sorted ds) i ≡ slice_index (sorted cs) i
-unmoved ws cs ds p c from to i few too first m k l (inl b) =
-    sym (order_at ws ds i too l) ∙ m.below (middle ws + i) b.1 b.0 ∙ get_or-set_other (kept ws cs) p (middle ws + i) c 0 (omega arith) ∙ order_at ws cs i few k
-unmoved ws cs ds p c from to i few too first m k l (inr b) =
-    sym (order_at ws ds i too l) ∙ m.above (middle ws + i) b.1 b.0 ∙ get_or-set_other (kept ws cs) p (middle ws + i) c 0 (omega arith) ∙ order_at ws cs i few k
+unmoved ws cs ds p c from to i few too first m k l out =
+    let was = order_at ws cs i few k in
+    let is = order_at ws ds i too l in
+    let other = get_or-set_other (kept ws cs) p (middle ws + i) c 0 (omega arith) in
+    grind (arith, m.below (middle ws + i), m.above (middle ws + i))
 
 pub adds : Adds
 unfolding Adds
@@ -125,8 +119,8 @@ adds c at us cs new few e =
     let within : length ds ≤ middle (register us) = omega (arith, a.room, long, even) in
     let moved = rw front at a.inserted.carried in
     renewed us cs ds few (omega arith) (omega arith) (length cs + 1) (at - room (ledger us cs)) (length cs + 1) new (sym long) (rw front at e.resummed)
-    (λ i l out. ⊎_elim (λ (b : i < at - room (ledger us cs)). unmoved (register us) cs ds (length cs) c _ at i fit within (omega (arith, a.room, even)) moved (omega arith) l (inl (omega arith, omega arith))) (λ (g : length cs + 1 ≤ i). absurd (omega arith)) out)
-    (λ j l out. ⊎_elim (λ (b : j < at - room (ledger us cs)). omega arith) (λ (g : length cs + 1 ≤ first j). absurd (omega (arith, first_below j))) out)
+    (λ i l out. let b : i < at - room (ledger us cs) = grind arith in unmoved (register us) cs ds (length cs) c _ at i fit within (omega (arith, a.room, even)) moved (omega arith) l (inl (omega arith, omega arith)))
+    (λ j l out. grind (arith, first_below j))
 
 pub changes : Changes
 unfolding Changes
@@ -142,9 +136,7 @@ changes i c from to us cs new few e =
     let low = min from to - room (ledger us cs) in
     let high = max from to + 1 - room (ledger us cs) in
     renewed us cs ds few (omega arith) (omega arith) (length cs) low high new (sym long) (rw front at e.resummed)
-    (λ k l out.
-    unmoved (register us) cs ds i c from to k fit (omega arith) (omega arith) moved (omega arith) l
-    (⊎_elim (λ (b : k < low). inl (omega arith, omega arith)) (λ (g : high ≤ k). inr (omega arith, omega arith)) out))
+    (λ k l out. unmoved (register us) cs ds i c from to k fit (omega arith) (omega arith) moved (omega arith) l (grind arith))
     (λ j l out. omega arith)
 
 pub ordered : NeverOutOfOrder

@@ -1,5 +1,5 @@
 -- The way down a tree: as the code goes it, and that it ends at the level. Assumes nothing.
-use Rattle.std.proofs.Common.{◌≡◌, ℕ, suc, zero, ◌+◌, ◌-◌, ◌*◌, ◌^◌, ◌<◌, ◌≤◌, leb, ltb, ◌⊎◌, List, [], ◌∷◌, length, take, drop, sum, slice_index, length-drop, get_or-drop, All, mul-le-mul_left, refl, sym, ap, ◌∙◌, arith}
+use Rattle.std.proofs.Common.{◌≡◌, ℕ, suc, zero, ◌+◌, ◌-◌, ◌*◌, ◌^◌, ◌<◌, ◌≤◌, ◌⊎◌, List, [], ◌∷◌, length, take, drop, sum, slice_index, length-drop, get_or-drop, All, mul-le-mul_left, refl, sym, ap, ◌∙◌, arith}
 use mathlib.Core.Logic.{inl, inr}
 use Rattle.std.specs.List.Sorted.{IsNonDecreasing}
 use Rattle.std.proofs.lemmas.List.{places, take-take, take_rest, drop-take}
@@ -8,7 +8,6 @@ use Rattle.std.proofs.lemmas.List.Sorted.{IsNonDecreasingBy-drop}
 use Rattle.std.proofs.lemmas.List.Sums.{sum_by-take-drop}
 use Rattle.std.proofs.Math.Pow.{pow_mono}
 use Rattle.std.proofs.lemmas.Nat.{pow_pos}
-use Rattle.std.proofs.lemmas.Bool.{leb-true, leb-false, ltb-true, ltb-false, cond_both}
 use Rattle.std.proofs.lemmas.Bool.Decides.{nat_tests}
 use Rattle.estate.specs.Level.{fill}
 use Rattle.estate.proofs.Rows.{sum-cons}
@@ -144,8 +143,7 @@ fills (suc h) n ks ws d =
     let lower = λ (t : length ks < 2 ^ h). fills h n ks ws (before h m n ks ws is d (inl t)) in
     let left = λ (t : 2 ^ h ≤ length ks) (r : n ≤ reach). fills h n ks ws (goes_on h m n ks ws is d (omega arith) (rw is r)) in
     let right = λ (t : 2 ^ h ≤ length ks) (r : reach < n). rw is at (fills h (n - slice_index ws m) (drop (m + 1) ks) (drop (m + 1) ws) (behind h m n ks ws is d (omega arith) (rw is r)) ∙ sym (filled h m n ks ws is d (omega arith) (rw is r))) in
-    cond_both (ltb (length ks) (2 ^ h)) _ _ (λ (v : Way). v.level ≡ fill n ks) (λ t. lower (ltb-true _ _ t))
-    (λ t. cond_both (leb n reach) _ _ (λ (v : Way). v.level ≡ fill n ks) (λ r. left (ltb-false _ _ t) (leb-true _ _ r)) (λ r. right (ltb-false _ _ t) (leb-false _ _ r)))
+    grind (arith, nat_tests, lower, left, right)
 
 -- the whole tree
 pub level_found : (h n : ℕ) (ks ws : List ℕ) (f : Fraction) (s : ℕ) → IsHeight (length ks) h → n < 2 ^ 64 → Goes h n ks ws f s → IsNonDecreasing ks → ws ≡ sums_of ks → Fills ks n f

@@ -16,17 +16,11 @@ use Rattle.sums.proofs.Found.{total_is, total_sums, room_before, room_taken, roo
 
 -- nothing, where no claim before b has changed, or none that is there from a on
 renewal_none : (a b : ℕ) (ks ws : List ℕ) → length ws ≡ length ks → (b ≡ 0) ⊎ (length ks ≤ a) → Renewal a b ks ws ws
-renewal_none a b ks ws paired (inl none) = record {
+renewal_none a b ks ws paired none = record {
   long = refl;
   untouched = λ j i out. refl;
-  renewed = λ j l i g. absurd (omega arith);
-  sums = λ same is. are_sums ks ws (record { long = same; nodes = λ j l. is j l (inr (omega arith)) });
-}
-renewal_none a b ks ws paired (inr none) = record {
-  long = refl;
-  untouched = λ j i out. refl;
-  renewed = λ j l i g. absurd (omega arith);
-  sums = λ same is. are_sums ks ws (record { long = same; nodes = λ j l. is j l (inl (omega arith)) });
+  renewed = λ j l i g. absurd (grind arith);
+  sums = λ same is. are_sums ks ws (record { long = same; nodes = λ j l. is j l (grind arith) });
 }
 
 -- parts of lists of one length
@@ -64,28 +58,24 @@ module _ (m v : ℕ) (left right : List ℕ) (long : length left ≡ m) where
 -- what holds at each place before the middle, in it, and behind it, holds at each
 by_place : (m : ℕ) (P : ℕ → Type 0) → ((j : ℕ) → j < m → P j) → P m → ((k : ℕ) → P (m + 1 + k)) → (j : ℕ) → P j
 by_place m P before here behind j =
-    ⊎_elim
-    (λ (l : j < m). before j l)
-    (λ (l : m ≤ j).
-    ⊎_elim
-    (λ (l : m < j). subst P (omega arith) (behind (j - (m + 1))))
-    (λ (g : j ≤ m). subst P (omega arith) here)
-    (cases_lt m j))
-    (cases_lt j m)
+    elim (cases_lt j m) [
+      | inl l ↦ before j l
+      | inr l ↦ elim (cases_lt m j) [
+        | inl l ↦ subst P (omega arith) (behind (j - (m + 1)))
+        | inr g ↦ subst P (omega arith) here
+      ]
+    ]
 
 module _ (h m a b : ℕ) (middle : m + 1 ≡ 2 ^ h) (ks ws : List ℕ) (few : length ks < 2 ^ suc h) (paired : length ws ≡ length ks) (some : m < length ks) (span : a < b) where
   -- where a node of a part is outside
   middle_outside : Outside a b m → m < a
-  middle_outside (inl l) = l
-  middle_outside (inr g) = absurd (omega (arith, first_middle h m middle, g))
+  middle_outside out = grind (arith, first_middle h m middle)
 
   right_outside : (k : ℕ) → k + 1 < 2 ^ h → Outside a b (m + 1 + k) → Outside (a - (m + 1)) (b - (m + 1)) k
-  right_outside k room (inl l) = inl (omega arith)
-  right_outside k room (inr g) = inr (omega (arith, first_right h m middle k room, g))
+  right_outside k room out = grind (arith, first_right h m middle k room)
 
   outside_right : (k : ℕ) → k + 1 < 2 ^ h → Outside (a - (m + 1)) (b - (m + 1)) k → Outside a b (m + 1 + k)
-  outside_right k room (inl l) = inl (omega arith)
-  outside_right k room (inr g) = inr (omega (arith, first_right h m middle k room, g))
+  outside_right k room out = grind (arith, first_right h m middle k room)
 
   summed : (left : List ℕ) → AreSums (take m ks) left → held (total_of left + slice_index ks m) ≡ held (sum (take (m + 1) ks))
   summed left tree =
