@@ -1,7 +1,6 @@
 -- Calls that are turned away for what they are, or for want of what is lent; and places held in 32 bits. Assumes nothing.
 use Rattle.std.proofs.Common.{◌≡◌, ℕ, ◌^◌, ◌<◌, List, length, Ok, Err, Result, refl, sym, ◌∙◌, arith, false, ◌==◌}
 use Rattle.std.proofs.lemmas.Bool.{false≢true}
-use mathlib.Core.Logic.{◌⊎◌, inl, inr}
 use Rattle.std.proofs.lemmas.Bool.Decides.{nat_tests}
 use Rattle.std.specs.Prelude.{IsErrAnd}
 use Rattle.estate.specs.Answers.{Answer, refused}
@@ -9,14 +8,14 @@ use Rattle.estate.specs.Estates.{Estate, counted}
 use Rattle.estate.specs.Limits.{Limits}
 use Rattle.estate.specs.Calls.{Call, claims, proves, comes, shares, cents, garbled}
 use Rattle.estate.specs.Refusals.{checks_alone, first_refusal, turned, place}
-use Rattle.estate.specs.Right.{says, answered}
+use Rattle.estate.specs.Right.{answered}
 use Rattle.wire.specs.Calls.{narrow}
 use Rattle.wire.specs.Reading.{read, Heard}
 use Rattle.wire.specs.declared.refusals.TurnedAway.{TurnedAway}
 use Rattle.wire.specs.declared.refusals.Refusal.TheVariants.{Unreadable, TooLarge, NotLent}
 use Rattle.wire.proofs.Narrow.{narrow_enough}
 use Rattle.desk.specs.Memory.{limits_of, estate_of, Headed, Lent}
-use Rattle.desk.specs.Calling.{Told, AsTold, Called, turned_unlent}
+use Rattle.desk.specs.Calling.{Told, Called, turned_unlent}
 use Rattle.desk.specs.Opening.{refusal}
 use Rattle.desk.proofs.Keeping.{refused_by, refused_told, unchanged}
 use Rattle.desk.proofs.Words.{claims_counted}

@@ -1,18 +1,18 @@
 -- The desk that the definitions describe does as the contracts say: its answers can be given. Assumes nothing.
-use Rattle.std.proofs.Common.{◌≡◌, ℕ, zero, suc, ◌+◌, ◌^◌, ◌<◌, ◌≤◌, Bool, true, false, ◌==◌, List, [], ◌∷◌, ◌++◌, length, drop, replicate, Ok, Err, Result, refl, sym, ap, ◌∙◌, arith, mul-le-mul}
+use Rattle.std.proofs.Common.{◌≡◌, ℕ, ◌+◌, ◌^◌, ◌<◌, ◌≤◌, Bool, true, false, ◌==◌, List, [], ◌∷◌, ◌++◌, length, drop, replicate, Ok, Err, Result, refl, sym, ap, ◌∙◌, arith}
 use Rattle.std.proofs.lemmas.Bool.{false≢true}
 use mathlib.Core.Logic.{◌⊎◌, inl, inr}
 use Rattle.std.proofs.lemmas.Bool.Decides.{nat_tests}
 use Rattle.std.proofs.Math.ListN.{drop_of_length-le}
-use Rattle.std.proofs.lemmas.List.{places, length-replicate, append-nil}
-use Rattle.std.specs.Prelude.{if◌then◌else◌, IfErr, slice_index}
+use Rattle.std.proofs.lemmas.List.{length-replicate, append-nil}
+use Rattle.std.specs.Prelude.{if◌then◌else◌, IfErr}
 use Rattle.estate.specs.Answers.{Answer, refused, number}
 use Rattle.estate.specs.Calls.{Call, claims, proves, comes, shares, cents, garbled}
 use Rattle.estate.specs.Changes.{after}
 use Rattle.estate.specs.Closed.{denominator, division}
 use Rattle.estate.specs.Division.{Agrees}
 use Rattle.estate.specs.Estates.{Estate, new_estate, amount, counted, divided}
-use Rattle.estate.specs.Limits.{Limits, most_cents, most_there}
+use Rattle.estate.specs.Limits.{Limits, most_there}
 use Rattle.estate.specs.Refusals.{check, first_refusal, turned, place}
 use Rattle.estate.specs.Right.{says, answered}
 use Rattle.estate.proofs.ClosedForm.{closed_divides}
