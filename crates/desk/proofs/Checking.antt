@@ -50,7 +50,7 @@ widened c m new out sent r (a, g, s, k) = (
   g,
   record {
     served = λ d l.
-        let few : length (counted (estate_of m)) < 2 ^ 32 = omega (arith, d.fair.within.few) in
+        let few : length (counted (estate_of m)) < 2 ^ 32 = omega (arith, d.allowed.within.few) in
         let same = narrow_enough (limits_of m) (estate_of m) c few in
         let v = s.served d l in
         record { memory = rw same.1 at v.memory; answer = rw same.0 at v.answer };

@@ -25,13 +25,13 @@ use Rattle.wire.specs.declared.refusals.Refusal.{Refusal}
 use Rattle.wire.specs.declared.refusals.Refusal.TheVariants.{Unreadable, TooLarge, NotThere, NoRoom}
 use Rattle.wire.specs.declared.refusals.TurnedAway.{TurnedAway}
 use Rattle.wire.proofs.Bytes.{fitting_more, length-row}
-use Rattle.desk.specs.Memory.{words_asked, bytes_asked, limits_of, estate_of, rest_of, layout, Fair}
+use Rattle.desk.specs.Memory.{words_asked, bytes_asked, limits_of, estate_of, rest_of, layout, Allowed}
 use Rattle.desk.specs.Calling.{is_refused, Given, Called}
 use Rattle.desk.specs.Promises.{DescribedObeys}
 use Rattle.desk.proofs.Words.{limits_read, estate_read, rest_read}
 use Rattle.desk.proofs.Keeping.{told_of}
 use Rattle.desk.proofs.Checking.{answered_alone}
-use Rattle.desk.proofs.Promised.{fair_after}
+use Rattle.desk.proofs.Promised.{allowed_after}
 
 -- what turns a call away has a name
 refusal_of_two : (a b : Bool) (v w : Refusal) → (first_refusal (check a (refusal_number v) ∷ check b (refusal_number w) ∷ []) == 0) ≡ false → (why : Refusal) × (refusal_number why ≡ first_refusal (check a (refusal_number v) ∷ check b (refusal_number w) ∷ []))
@@ -60,7 +60,7 @@ number_fits l n less = record {
   answers = refl;
 }
 
-module _ (l : Limits) (e : Estate) (f : Fair l e) where
+module _ (l : Limits) (e : Estate) (f : Allowed l e) where
   abbrev d : ℕ
   d = denominator (divided e) (counted e)
 
@@ -121,8 +121,8 @@ described_obeys = record {
       let e = estate_of m.words in
       let rest = rest_of m.words in
       let new : List ℕ = layout l (after l e c) ++ rest in
-      let few = (fair_after l e c s.fair).few in
-      let (sent, r, g, away) = given l e s.fair c out _ refl lent.bytes in
+      let few = (allowed_after l e c s.allowed).few in
+      let (sent, r, g, away) = given l e s.allowed c out _ refl lent.bytes in
       let asks : (c ≡ shares) ⊎ (c ≡ cents) → new ≡ m.words = λ h. elim h [ inl is ↦ rw is (sym s.laid) | inr is ↦ rw is (sym s.laid) ] in
       let called : Called c m.words new out sent r = (
         answered l e c,

@@ -20,7 +20,7 @@ tree_known m limit count k tree h l n span claims sums = λ s.
     let is = part_is m limit count k l n span h s in
     let same = part_room m limit count k l n span h in
     let length : count ≡ length (estate_of m).claimed = sym (claims_counted m h ∙ sym n) in
-    rows_read _ (estate_of m) s.fair.few limit tree l (rw (same, length, is) at claims) (rw (same, length, is) at sums)
+    rows_read _ (estate_of m) s.allowed.few limit tree l (rw (same, length, is) at claims) (rw (same, length, is) at sums)
 
 pub terms_known : (m : List ℕ) (there : ℕ) (tree : Tree) (t : Terms) (o : Option Terms) → Summed m tree → there ≡ slice_index m 1 → o ≡ Some t → (IsTree tree → Found there tree.claims.now o) → Termed m t
 unfolding Termed Summed
@@ -29,7 +29,7 @@ terms_known m there tree t o summed e is found = λ s.
     let (tree, order) = summed s in (
       sorted cs,
       record {
-        within = s.fair.within;
+        within = s.allowed.within;
         same = same_sorted cs;
         rising = rising_sorted cs;
         found = rw (is, order, e) at (found tree);

@@ -75,60 +75,60 @@ module _ (m : List ℕ) (there : ℕ) (is_there : there ≡ slice_index m 1) (he
 
 -- memory whose header says the limit and how many claims there are, of which so many words are the ledger
 module _ (m : List ℕ) (limit count k : ℕ) (is_limit : limit ≡ slice_index m 0) (is_count : count ≡ slice_index m 2) (span : k ≡ 3 * limit) (headed : Headed m) where
-  abbrev part0 : List ℕ
-  part0 = take k (drop header_words m)
+  abbrev ledger_words : List ℕ
+  ledger_words = take k (drop header_words m)
 
-  part_long : length part0 ≡ k
+  part_long : length ledger_words ≡ k
   part_long =
       length-take-le k (drop header_words m) (omega (arith, length-drop header_words m, headed.words, is_limit))
 
-  pub part_room : room part0 ≡ limit
+  pub part_room : room ledger_words ≡ limit
   part_room = let l = part_long in omega arith
 
   count_is : length (estate_of m).claimed ≡ count
   count_is = claims_counted m headed ∙ sym is_count
 
-  came : take count part0 ≡ (estate_of m).claimed
+  came : take count ledger_words ≡ (estate_of m).claimed
   came = let within : count ≤ k = omega (arith, headed.few, is_limit, is_count) in take-take count k (drop header_words m) within ∙ ap (λ n. take n (drop header_words m)) is_count
 
-  pub part_is : Stands m → part0 ≡ rows (limits_of m) (estate_of m)
+  pub part_is : Stands m → ledger_words ≡ rows (limits_of m) (estate_of m)
   part_is s =
-      let b = body _ (estate_of m) (rest_of m) s.fair.few in
+      let b = body _ (estate_of m) (rest_of m) s.allowed.few in
       rw (span, is_limit) (ap (λ ws. take (3 * slice_index m 0) (drop header_words ws)) s.laid ∙ b)
 
-  unwritten : put_mid header_words k m part0 ≡ m
+  unwritten : put_mid header_words k m ledger_words ≡ m
   unwritten =
       let one = take-append-drop k (drop header_words m) in
       let two = take-append-drop header_words m in
       cc
 
-  put_bounded : (part : List ℕ) → length part ≡ length part0 → SameBounds m (put_mid header_words k m part)
+  put_bounded : (part : List ℕ) → length part ≡ length ledger_words → SameBounds m (put_mid header_words k m part)
   put_bounded part long =
       let room : header_words ≤ length m = omega (arith, headed.words) in
       bounded m _ (put_below header_words k 0 m part (omega arith) room) (drop-put_mid header_words k m part _ (omega (arith, span, is_limit)) room (long ∙ part_long))
 
-  pub claim_done : (c : ℕ) (part : List ℕ) → Grown count c part0 part → c ≤ most_cents → Does (claims c) m (slice_set (put_mid header_words k m part) 2 (count + 1)) (Ok count)
+  pub claim_done : (c : ℕ) (part : List ℕ) → Grown count c ledger_words part → c ≤ most_cents → Does (claims c) m (slice_set (put_mid header_words k m part) 2 (count + 1)) (Ok count)
   unfolding says Does Grown Enters
   claim_done c part (at, a) few =
       let n = count_is in
-      let long = entered_long count c part0 part at a in
+      let long = entered_long count c ledger_words part at a in
       let room : count < limit = omega (arith, long.0, part_room) in
       let same = long.1 in
       let b = put_bounded part same in
       let t : turned (limits_of m) (estate_of m) (claims c) ≡ 0 = grind (arith, nat_tests, is_limit) in (
         λ s.
             let cs = (estate_of m).claimed ++ c ∷ [] in
-            let new = rows_added _ (estate_of m) s.fair.few c at part (rw (part_is s, sym n) at a) in
+            let new = rows_added _ (estate_of m) s.allowed.few c at part (rw (part_is s, sym n) at a) in
             let long : count + 1 ≡ length cs = omega (arith, length_push (estate_of m).claimed c) in
-            let w = claims_writes _ (estate_of m) (rest_of m) s.fair.few cs part (omega (arith, is_limit)) new in
+            let w = claims_writes _ (estate_of m) (rest_of m) s.allowed.few cs part (omega (arith, is_limit)) new in
             let k = span in
             served_by (claims c) m _ _ t (cc) (ap number (sym n)),
-        told_by (claims c) m (slice_set (put_mid header_words k m part) 2 (count + 1)) _ t (claims_told m headed k part (count + 1) _ (omega (arith, same, part_long)) (entered_came count c part0 part at a ∙ ap (λ cs. cs ++ c ∷ []) came)) (ap number (sym n)),
+        told_by (claims c) m (slice_set (put_mid header_words k m part) 2 (count + 1)) _ t (claims_told m headed k part (count + 1) _ (omega (arith, same, part_long)) (entered_came count c ledger_words part at a ∙ ap (λ cs. cs ++ c ∷ []) came)) (ap number (sym n)),
         tt,
         bounded m _ (grind (arith, places, b.limit)) (drop-set-lt (words_asked (slice_index m 0)) (put_mid header_words k m part) 2 _ (omega arith) ∙ rw b.limit at b.rest),
       )
 
-  pub claim_full : (c : ℕ) (part : List ℕ) (t : TurnedAway) → Full count c part0 part → c ≤ most_cents → t ≡ record { why = NoRoom; place = 0 } → Does (claims c) m (put_mid header_words k m part) (Err t)
+  pub claim_full : (c : ℕ) (part : List ℕ) (t : TurnedAway) → Full count c ledger_words part → c ≤ most_cents → t ≡ record { why = NoRoom; place = 0 } → Does (claims c) m (put_mid header_words k m part) (Err t)
   unfolding Does Full Enters
   claim_full c part t e few is =
       let n = count_is in
@@ -137,31 +137,31 @@ module _ (m : List ℕ) (limit count k : ℕ) (is_limit : limit ≡ slice_index 
       let k : turned (limits_of m) (estate_of m) (claims c) ≡ no_room = grind (arith, nat_tests, is_limit) in
       rw same (refused_by (claims c) m _ _ refl k (rw is refl), refused_told (claims c) m _ _ refl k (rw is refl), refl, unchanged m)
 
-  pub prove_done : (i x c : ℕ) (part : List ℕ) → Altered count i c part0 part → c ≤ most_cents → x ≡ i → Does (proves i c) m (put_mid header_words k m part) (Ok x)
+  pub prove_done : (i x c : ℕ) (part : List ℕ) → Altered count i c ledger_words part → c ≤ most_cents → x ≡ i → Does (proves i c) m (put_mid header_words k m part) (Ok x)
   unfolding says Does Altered Amends
   prove_done i x c part (moved, a) few same =
       let n = count_is in
-      let kept = amended_long count c part0 part i moved.from moved.to a in
+      let kept = amended_long count c ledger_words part i moved.from moved.to a in
       let long = kept.2 in
       let t : turned (limits_of m) (estate_of m) (proves i c) ≡ 0 = grind (arith, nat_tests) in (
         λ s.
             let cs = slice_set (estate_of m).claimed i c in
             let long = length-set (estate_of m).claimed i c in
-            let new = rows_changed _ (estate_of m) s.fair.few i c moved.from moved.to part (rw (part_is s, sym n) at a) in
-            let w = proves_writes _ (estate_of m) (rest_of m) s.fair.few cs part (omega (arith, s.fair.few)) new long in
+            let new = rows_changed _ (estate_of m) s.allowed.few i c moved.from moved.to part (rw (part_is s, sym n) at a) in
+            let w = proves_writes _ (estate_of m) (rest_of m) s.allowed.few cs part (omega (arith, s.allowed.few)) new long in
             let k = span in
             served_by (proves i c) m _ _ t (cc) (ap number same),
-        inl (told_by (proves i c) m (put_mid header_words k m part) _ t (proves_told m headed k part _ (omega (arith, long, part_long)) (rw is_count at (amended_came count c part0 part i moved.from moved.to a) ∙ ap (λ cs. slice_set cs i c) (rw is_count at came))) (ap number same)),
+        inl (told_by (proves i c) m (put_mid header_words k m part) _ t (proves_told m headed k part _ (omega (arith, long, part_long)) (rw is_count at (amended_came count c ledger_words part i moved.from moved.to a) ∙ ap (λ cs. slice_set cs i c) (rw is_count at came))) (ap number same)),
         tt,
         put_bounded part long,
       )
 
-  missing : (i : ℕ) → Stands m → (why : Unfit) → Unchanged count i (register part0) why → count ≤ i
-  missing i s unfit.NotThere u = omega (arith, u, part_room, halves part0, headed.few, is_limit, is_count)
+  missing : (i : ℕ) → Stands m → (why : Unfit) → Unchanged count i (register ledger_words) why → count ≤ i
+  missing i s unfit.NotThere u = omega (arith, u, part_room, halves ledger_words, headed.few, is_limit, is_count)
   missing i s unfit.OutOfOrder u =
-      absurd (rows_ordered _ (estate_of m) s.fair.few i (rw (part_is s, sym count_is) at u))
+      absurd (rows_ordered _ (estate_of m) s.allowed.few i (rw (part_is s, sym count_is) at u))
 
-  pub prove_missing : (i c : ℕ) (part : List ℕ) (t : TurnedAway) → Unaltered count i c part0 part → c ≤ most_cents → t ≡ record { why = NotThere; place = 0 } → Does (proves i c) m (put_mid header_words k m part) (Err t)
+  pub prove_missing : (i c : ℕ) (part : List ℕ) (t : TurnedAway) → Unaltered count i c ledger_words part → c ≤ most_cents → t ≡ record { why = NotThere; place = 0 } → Does (proves i c) m (put_mid header_words k m part) (Err t)
   unfolding Does Unaltered Amends
   prove_missing i c part t (why, b) few is =
       let n = count_is in

@@ -16,22 +16,22 @@ use Rattle.estate.proofs.RightAnswers.{answered_right}
 use Rattle.wire.specs.declared.refusals.TurnedAway.{TurnedAway}
 use Rattle.wire.specs.Answers.{answer_row}
 use Rattle.wire.proofs.AnswerRows.{one_answer}
-use Rattle.desk.specs.Memory.{layout, bytes_asked, limits_of, estate_of, rest_of, Fair, Stands, Lent}
+use Rattle.desk.specs.Memory.{layout, bytes_asked, limits_of, estate_of, rest_of, Allowed, Stands, Lent}
 use Rattle.desk.specs.Calling.{Given, Served, Called}
 use Rattle.desk.specs.Promises.{Obeys, DesksRight, RefusalsKeep, OneEstate, NewDesk, StaysDesk}
 use Rattle.desk.proofs.Words.{count_read, long_enough, limits_read, estate_read, rest_read}
 
 -- a desk stands where it was laid
-module _ (l : Limits) (e : Estate) (rest : List ℕ) (f : Fair l e) where
+module _ (l : Limits) (e : Estate) (rest : List ℕ) (f : Allowed l e) where
   reads : (limits_of (layout l e ++ rest) ≡ l) × (estate_of (layout l e ++ rest) ≡ e) × (rest_of (layout l e ++ rest) ≡ rest)
   reads = (limits_read l.creditors e rest f.few, estate_read l.creditors e rest f.few, rest_read l.creditors e rest f.few)
 
   pub stands : Stands (layout l e ++ rest)
-  stands = let (n, t, r) = reads in record { fair = rw (n, t) f; laid = rw (n, t, r) refl }
+  stands = let (n, t, r) = reads in record { allowed = rw (n, t) f; laid = rw (n, t, r) refl }
 
 -- a call that is not turned away leaves an estate within the limits
-fair_changed : (l : Limits) (e : Estate) (c : Call) → (turned l e c == 0) ≡ true → Fair l e → Fair l (changed e c)
-fair_changed l e (claims c) t f =
+allowed_changed : (l : Limits) (e : Estate) (c : Call) → (turned l e c == 0) ≡ true → Allowed l e → Allowed l (changed e c)
+allowed_changed l e (claims c) t f =
     let fits : (c ≤ most_cents) × (length e.claimed < l.creditors) = (grind (arith, nat_tests), grind (arith, nat_tests)) in
     let long = length_push e.claimed c in
     record {
@@ -39,7 +39,7 @@ fair_changed l e (claims c) t f =
       few = omega (arith, fits.1);
       within = record { few = omega (arith, fits.1, f.limit); each = All-append (λ k. k ≤ most_cents) e.claimed (c ∷ []) f.within.each (λ j d h. grind (arith, places, fits.0)); there = f.within.there };
     }
-fair_changed l e (proves i c) t f =
+allowed_changed l e (proves i c) t f =
     let fits : c ≤ most_cents = grind (arith, nat_tests) in
     let long = length-set e.claimed i c in
     record {
@@ -47,21 +47,21 @@ fair_changed l e (proves i c) t f =
       few = omega (arith, f.few);
       within = record { few = omega (arith, f.within.few); each = All-set (λ k. k ≤ most_cents) e.claimed i c fits f.within.each; there = f.within.there };
     }
-fair_changed l e (comes x) t f = record {
+allowed_changed l e (comes x) t f = record {
   limit = f.limit;
   few = f.few;
   within = record { few = f.within.few; each = f.within.each; there = grind (arith, nat_tests) };
 }
-fair_changed l e shares t f = f
-fair_changed l e cents t f = f
-fair_changed l e (garbled n) t f = f
+allowed_changed l e shares t f = f
+allowed_changed l e cents t f = f
+allowed_changed l e (garbled n) t f = f
 
-fair_if : (l : Limits) (e : Estate) (c : Call) (b : Bool) → (turned l e c == 0) ≡ b → Fair l e → Fair l (if b then changed e c else e)
-fair_if l e c true t f = fair_changed l e c t f
-fair_if l e c false t f = f
+allowed_if : (l : Limits) (e : Estate) (c : Call) (b : Bool) → (turned l e c == 0) ≡ b → Allowed l e → Allowed l (if b then changed e c else e)
+allowed_if l e c true t f = allowed_changed l e c t f
+allowed_if l e c false t f = f
 
-pub fair_after : (l : Limits) (e : Estate) (c : Call) → Fair l e → Fair l (after l e c)
-fair_after l e c f = fair_if l e c _ refl f
+pub allowed_after : (l : Limits) (e : Estate) (c : Call) → Allowed l e → Allowed l (after l e c)
+allowed_after l e c f = allowed_if l e c _ refl f
 
 -- in given bytes there is one answer
 one_given : (a b : Answer) (out sent : List ℕ) (r : Result ℕ TurnedAway) → Given a out sent r → Given b out sent r → a ≡ b
@@ -81,15 +81,15 @@ zeros m = replicate (bytes_asked (limits_of m.words).creditors) 0
 pub lent_enough : (m out : List ℕ) → Stands m → bytes_asked (limits_of m).creditors ≤ length out → Lent m out
 lent_enough m out s enough =
     let l = s.laid in
-    let c = count_read (limits_of m).creditors (estate_of m) (rest_of m) s.fair.few in
+    let c = count_read (limits_of m).creditors (estate_of m) (rest_of m) s.allowed.few in
     let count : slice_index m 2 ≡ length (estate_of m).claimed = ap (λ ws. slice_index ws 2) s.laid ∙ c in
     let long = ap length s.laid in
     record {
       headed = record {
-        limit = s.fair.limit;
-        there = s.fair.within.there;
-        few = omega (arith, count, s.fair.few);
-        words = omega (arith, long, long_enough (limits_of m).creditors (estate_of m) (rest_of m) s.fair.few);
+        limit = s.allowed.limit;
+        there = s.allowed.within.there;
+        few = omega (arith, count, s.allowed.few);
+        words = omega (arith, long, long_enough (limits_of m).creditors (estate_of m) (rest_of m) s.allowed.few);
       };
       bytes = enough;
     }
@@ -109,52 +109,52 @@ module _ (k : Desk) (o : Obeys k) where
 
   -- of a desk with these limits and this estate
   module _ (l : Limits) (rest : List ℕ) where
-    goes_on : (e : Estate) (m : Memory) (c : Call) → Fair l e → m.words ≡ layout l e ++ rest → ((k.next m c).words ≡ layout l (after l e c) ++ rest) × (k.says m c ≡ answered l e c)
+    goes_on : (e : Estate) (m : Memory) (c : Call) → Allowed l e → m.words ≡ layout l e ++ rest → ((k.next m c).words ≡ layout l (after l e c) ++ rest) × (k.says m c ≡ answered l e c)
     goes_on e m c f w =
         let v = served m c (subst Stands (sym w) (stands l e rest f)) in
         let (n, t, r) = reads l e rest f in
         rw (sym (ap limits_of w ∙ n), sym (ap estate_of w ∙ t), sym (ap rest_of w ∙ r)) (v.memory, v.answer)
 
-    all_served : (e : Estate) (m : Memory) (cs : List Call) → Fair l e → m.words ≡ layout l e ++ rest → all_right k l m e cs
+    all_served : (e : Estate) (m : Memory) (cs : List Call) → Allowed l e → m.words ≡ layout l e ++ rest → all_right k l m e cs
     unfolding all_right
     all_served e m [] f w = tt
     all_served e m (c ∷ cs) f w =
         let g = goes_on e m c f w in
-        (subst (right l e c) (sym g.1) (answered_right l e c), all_served (after l e c) (k.next m c) cs (fair_after l e c f) g.0)
+        (subst (right l e c) (sym g.1) (answered_right l e c), all_served (after l e c) (k.next m c) cs (allowed_after l e c f) g.0)
 
-    left : (e : Estate) (m : Memory) (cs : List Call) → Fair l e → m.words ≡ layout l e ++ rest → Fair l (ran l e cs) × ((left_by k m cs).words ≡ layout l (ran l e cs) ++ rest)
+    left : (e : Estate) (m : Memory) (cs : List Call) → Allowed l e → m.words ≡ layout l e ++ rest → Allowed l (ran l e cs) × ((left_by k m cs).words ≡ layout l (ran l e cs) ++ rest)
     unfolding ran left_by
     left e m [] f w = (f, w)
-    left e m (c ∷ cs) f w = left (after l e c) (k.next m c) cs (fair_after l e c f) (goes_on e m c f w).0
+    left e m (c ∷ cs) f w = left (after l e c) (k.next m c) cs (allowed_after l e c f) (goes_on e m c f w).0
 
-fair_new : (l : Limits) → l.creditors ≤ most_creditors → Fair l new_estate
-fair_new l few = record { limit = few; few = omega arith; within = record { few = omega arith; each = λ j d h. omega (arith, h); there = omega arith } }
+pub new_desk : NewDesk
+unfolding NewDesk
+new_desk l few =
+    record { limit = few; few = omega arith; within = record { few = omega arith; each = λ j d h. omega (arith, h); there = omega arith } }
 
 pub desks_right : DesksRight
+unfolding NewDesk
 desks_right k o l cs few =
     let (m, opened) = o.opens l few in
-    all_served k o l _ new_estate (k.opened l) cs (fair_new l few) opened.2
+    all_served k o l _ new_estate (k.opened l) cs (new_desk l few) opened.2
 
 pub refusals_keep : RefusalsKeep
+unfolding NewDesk
 refusals_keep k o l cs c few turned =
     let (m, opened) = o.opens l few in
-    let (f, w) = left k o l _ new_estate (k.opened l) cs (fair_new l few) opened.2 in
+    let (f, w) = left k o l _ new_estate (k.opened l) cs (new_desk l few) opened.2 in
     let g = goes_on k o l _ (ran l new_estate cs) (left_by k (k.opened l) cs) c f w in
     let same = after-turned l (ran l new_estate cs) c turned in
     ap (λ ws. record { words = ws }) (rw same at g.0 ∙ sym w)
 
 pub one_estate : OneEstate
-one_estate l k e f rest more fair also same =
-    let (n, t, r) = reads l e rest fair in
+one_estate l k e f rest more allowed also same =
+    let (n, t, r) = reads l e rest allowed in
     let (m, u, s) = reads k f more also in
     (sym n ∙ ap limits_of same ∙ m, sym t ∙ ap estate_of same ∙ u, sym r ∙ ap rest_of same ∙ s)
 
-pub new_desk : NewDesk
-unfolding NewDesk
-new_desk l few = fair_new l few
-
 pub stays_desk : StaysDesk
 unfolding StaysDesk
-stays_desk l e rest f = (stands l e rest f, λ c. fair_after l e c f)
+stays_desk l e rest f = (stands l e rest f, λ c. allowed_after l e c f)
 
 pub ruleset desks = (one_estate, new_desk, stays_desk)

@@ -42,14 +42,14 @@ abbrev pub rest_of : List ℕ → List ℕ
 rest_of m = drop (words_asked (slice_index m 0)) m
 
 -- a desk with these limits may have this estate
-pub record Fair (l : Limits) (e : Estate) : Type 0 where
+pub record Allowed (l : Limits) (e : Estate) : Type 0 where
   pub limit : l.creditors ≤ most_creditors
   pub few : length (counted e) ≤ l.creditors
   pub within : Within e
 
 -- A desk stands in this memory: it is what a desk leaves of the estate that it tells.
 pub record Stands (m : List ℕ) : Type 0 where
-  pub fair : Fair (limits_of m) (estate_of m)
+  pub allowed : Allowed (limits_of m) (estate_of m)
   pub laid : m ≡ layout (limits_of m) (estate_of m) ++ rest_of m
 
 -- The numbers of the header may be a desk's, and there is as much memory as it asks for.

@@ -8,7 +8,7 @@ use Rattle.estate.specs.Estates.{Estate, new_estate}
 use Rattle.estate.specs.Limits.{Limits, most_creditors}
 use Rattle.estate.specs.Right.{answered}
 use Rattle.wire.specs.declared.refusals.TurnedAway.{TurnedAway}
-use Rattle.desk.specs.Memory.{layout, limits_of, estate_of, rest_of, Fair, Stands, Lent}
+use Rattle.desk.specs.Memory.{layout, limits_of, estate_of, rest_of, Allowed, Stands, Lent}
 use Rattle.desk.specs.Opening.{Opened}
 use Rattle.desk.specs.Calling.{Given, Called}
 
@@ -41,13 +41,13 @@ DescribedObeys = Obeys described_desk
 -- in the same memory stands one estate, with the same limits and the same words behind it
 abbrev pub OneEstate : Type 0
 OneEstate =
-    (l k : Limits) (e f : Estate) (rest more : List ℕ) → Fair l e → Fair k f → layout l e ++ rest ≡ layout k f ++ more → (l ≡ k) × (e ≡ f) × (rest ≡ more)
+    (l k : Limits) (e f : Estate) (rest more : List ℕ) → Allowed l e → Allowed k f → layout l e ++ rest ≡ layout k f ++ more → (l ≡ k) × (e ≡ f) × (rest ≡ more)
 
 -- a new estate is one that a desk may have
 unfoldable pub NewDesk : Type 0
-NewDesk = (l : Limits) → l.creditors ≤ most_creditors → Fair l new_estate
+NewDesk = (l : Limits) → l.creditors ≤ most_creditors → Allowed l new_estate
 
 -- where such a desk is laid one stands, and the estate after each call is again such
 unfoldable pub StaysDesk : Type 0
 StaysDesk =
-    (l : Limits) (e : Estate) (rest : List ℕ) → Fair l e → Stands (layout l e ++ rest) × ((c : Call) → Fair l (after l e c))
+    (l : Limits) (e : Estate) (rest : List ℕ) → Allowed l e → Stands (layout l e ++ rest) × ((c : Call) → Allowed l (after l e c))

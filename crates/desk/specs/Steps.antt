@@ -34,7 +34,7 @@ Summed m t = Stands m → IsTree t × (t.claims.now ≡ sorted (estate_of m).cla
 unfoldable pub Termed : List ℕ → Terms → Type 0
 Termed m t = Stands m → (ks : List ℕ) × TermsFor (estate_of m) ks t
 
--- these are its claims as they came, on those terms
+-- in a desk, these are its claims as they came, on the terms of the division
 unfoldable pub Parted : List ℕ → Shares → Type 0
 Parted m s = Termed m s.terms × (s.claims.now ≡ (estate_of m).claimed)
 
@@ -42,15 +42,15 @@ Parted m s = Termed m s.terms × (s.claims.now ≡ (estate_of m).claimed)
 unfoldable pub Grown : ℕ → ℕ → List ℕ → List ℕ → Type 0
 Grown n c ws new = (at : ℕ) × Enters n c ws new (Some at)
 
--- or are as they were, since there is no room
+-- they are as they were, since there is no room for one more
 unfoldable pub Full : ℕ → ℕ → List ℕ → List ℕ → Type 0
 Full n c ws new = Enters n c ws new None
 
--- or have become new with another claim at place i
+-- they have become new, with another claim at place i
 unfoldable pub Altered : ℕ → ℕ → ℕ → List ℕ → List ℕ → Type 0
 Altered n i c ws new = (moved : Moved) × Amends n i c ws new (Ok moved)
 
--- or are as they were, since that does not fit
+-- they are as they were, since there is no claim at place i, or it is not among those in order
 unfoldable pub Unaltered : ℕ → ℕ → ℕ → List ℕ → List ℕ → Type 0
 Unaltered n i c ws new = (why : Unfit) × Amends n i c ws new (Err why)
 

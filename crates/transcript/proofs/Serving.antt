@@ -13,12 +13,12 @@ use Rattle.wire.specs.Meaning.{told}
 use Rattle.wire.specs.declared.answers.Answer as answers
 use Rattle.wire.specs.declared.refusals.TurnedAway.{TurnedAway}
 use Rattle.wire.proofs.AnswerRows.{one_answer}
-use Rattle.desk.specs.Memory.{layout, limits_for, words_asked, bytes_asked, limits_of, estate_of, rest_of, Fair, Stands}
+use Rattle.desk.specs.Memory.{layout, limits_for, words_asked, bytes_asked, limits_of, estate_of, rest_of, Allowed, Stands}
 use Rattle.desk.specs.Opening.{refusal, Opened}
 use Rattle.desk.specs.Calling.{Given, Served, Called}
 use Rattle.desk.specs.Promises.{NewDesk}
 use Rattle.desk.proofs.Words.{limits_read, estate_read}
-use Rattle.desk.proofs.Promised.{stands, lent_enough, fair_after, new_desk}
+use Rattle.desk.proofs.Promised.{stands, lent_enough, allowed_after, new_desk}
 use Rattle.transcript.specs.Sessions.{served}
 
 -- a call on a desk that stands, with enough bytes lent for its answer
@@ -35,12 +35,12 @@ module _ (c : Call) (m new out sent : List ℕ) (s : Stands m) (limit : slice_in
         let (a, g, v) = answer_given in
         subst (λ (a : Answer). Given a out sent r) (rw limit at v.answer) g
 
-    fair_next : Fair (limits_of m) (after (limits_of m) (estate_of m) c)
-    fair_next = fair_after (limits_of m) (estate_of m) c s.fair
+    allowed_next : Allowed (limits_of m) (after (limits_of m) (estate_of m) c)
+    allowed_next = allowed_after (limits_of m) (estate_of m) c s.allowed
 
     pub still_stands : Stands new
     still_stands =
-        subst Stands (sym answer_given.2.memory) (stands (limits_of m) (after (limits_of m) (estate_of m) c) (rest_of m) fair_next)
+        subst Stands (sym answer_given.2.memory) (stands (limits_of m) (after (limits_of m) (estate_of m) c) (rest_of m) allowed_next)
 
     pub same_limit : slice_index new 0 ≡ most_served
     unfolding Called
@@ -48,7 +48,7 @@ module _ (c : Call) (m new out sent : List ℕ) (s : Stands m) (limit : slice_in
 
     pub estate_after : estate_of new ≡ after served (estate_of m) c
     estate_after =
-        let e = estate_read (slice_index m 0) (after (limits_of m) (estate_of m) c) (rest_of m) fair_next.few in
+        let e = estate_read (slice_index m 0) (after (limits_of m) (estate_of m) c) (rest_of m) allowed_next.few in
         rw limit at (ap estate_of answer_given.2.memory ∙ e)
 
   -- a call that is turned away is answered by that refusal
@@ -89,18 +89,18 @@ module _ (n : ℕ) (m new : List ℕ) (r : Result (Unit {0}) TurnedAway) (opened
   laid : new ≡ layout (limits_for n) new_estate ++ drop (words_asked n) m
   laid = (laid_if r opened).1
 
-  fair : Fair (limits_for n) new_estate
+  allowed : Allowed (limits_for n) new_estate
   unfolding NewDesk
-  fair = new_desk (limits_for n) few
+  allowed = new_desk (limits_for n) few
 
   pub stands_opened : Stands new
-  stands_opened = subst Stands (sym laid) (stands (limits_for n) new_estate (drop (words_asked n) m) fair)
+  stands_opened = subst Stands (sym laid) (stands (limits_for n) new_estate (drop (words_asked n) m) allowed)
 
   pub limit_opened : slice_index new 0 ≡ n
-  limit_opened = ap (λ l. l.creditors) (ap limits_of laid ∙ limits_read n new_estate (drop (words_asked n) m) fair.few)
+  limit_opened = ap (λ l. l.creditors) (ap limits_of laid ∙ limits_read n new_estate (drop (words_asked n) m) allowed.few)
 
   pub estate_opened : estate_of new ≡ new_estate
-  estate_opened = ap estate_of laid ∙ estate_read n new_estate (drop (words_asked n) m) fair.few
+  estate_opened = ap estate_of laid ∙ estate_read n new_estate (drop (words_asked n) m) allowed.few
 
 pub ruleset openings = (is_opened, stands_opened, limit_opened, estate_opened, take_at)
 
