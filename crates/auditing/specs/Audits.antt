@@ -18,11 +18,11 @@ pub record HasClaims (text cs : List ℕ) : Type 0 where
 pub record HasShares (text : List ℕ) (d : ℕ) (xs : List ℕ) : Type 0 where
   pub read : shares_of (first_line (rest_of text)) ≡ Ok (d, xs)
 
--- how many lines behind it are blank, before one that is not
+-- how many lines behind the second are blank, before the first that is not; none, where all are
 abbrev pub blank_behind : List ℕ → Option ℕ
 blank_behind text = blank_lines 0 (rest_of (rest_of text))
 
--- a text begins with these two lines
+-- a text begins with two such lines
 pub record HasBoth (text : List ℕ) : Type 0 where
   pub claims : List ℕ
   pub d : ℕ
@@ -41,7 +41,7 @@ pub record HasMore (text : List ℕ) (n : ℕ) : Type 0 where
   pub lines : HasBoth text
   pub more : blank_behind text ≡ Some n
 
--- What is found: in this order.
+-- What is found, case by case. They stand in the order in which they are looked for, and the first that is so is found.
 abbrev pub IsAudited : List ℕ → Finding → Type 0
 IsAudited text (ClaimsMisfit p) = numbers_of (first_line text) ≡ Err p
 IsAudited text TooMany = (cs : List ℕ) × (numbers_of (first_line text) ≡ Ok cs) × (most_served < length cs)

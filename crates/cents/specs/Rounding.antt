@@ -16,7 +16,7 @@ unfoldable pub rounded_all : ℕ → (ℕ → Bool) → List ℕ → List ℕ
 rounded_all d up [] = []
 rounded_all d up (x ∷ xs) = rounded d (up 0) x ∷ rounded_all d (λ i. up (suc i)) xs
 
--- what one lacks of its share then
+-- what the one at place i lacks of its share then: nothing, where it is rounded up
 unfoldable pub lack : ℕ → (ℕ → Bool) → List ℕ → ℕ → ℕ
 lack d up xs i = if up i then 0 else slice_index xs i % d
 

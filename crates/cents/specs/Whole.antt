@@ -8,6 +8,7 @@ use Rattle.cents.specs.declared.whole.CentsError.TheVariants.{NoParts, TooMany, 
 use Rattle.cents.specs.Rounding.{cents_with}
 
 module _ {L : Type 0} (items : L → List ℕ) where
+  -- the amounts, one for each share
   abbrev pub cents_of : Cents L → List ℕ
   cents_of c = cents_with items c.rounding c.more
 

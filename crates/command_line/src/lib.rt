@@ -6,6 +6,7 @@ use std::io::Read;
 use std::rt::{Env, Files};
 use std::{env, fs};
 
+// What the words on the command line ask for.
 pub enum Command {
     // to say how it is used
     Help,

@@ -20,19 +20,20 @@ total_in zero ws = 0
 total_in (suc h) ws =
     if nat_lt (length ws) (2 ^ h) then total_in h ws else held (slice_index ws (2 ^ h - 1) + total_in h (drop (2 ^ h) ws))
 
--- the same in each tree that has room for them
+-- What they tell in a tree that has room for them, however high it is: one as high as there are words is.
 unfoldable pub total_of : List ℕ → ℕ
 total_of ws = total_in (length ws) ws
 
--- r is that
+-- r is what they tell in a tree of height h
 unfoldable pub Totals : ℕ → List ℕ → ℕ → Type 0
 Totals h ws r = r ≡ total_in h ws
 
--- what is found going down, and at how many nodes it was decided where it lies
+-- the level that is found going down, and at how many nodes it was decided on which side of them it lies
 pub record Way : Type 0 where
   pub level : Level
   pub steps : ℕ
 
+-- the same with one such node more
 abbrev pub further : Way → Way
 further w = record { level = w.level; steps = w.steps + 1 }
 
@@ -46,6 +47,6 @@ way (suc h) n ks ws =
     else if nat_le n (slice_index ws (2 ^ h - 1) + (length ks - 2 ^ h) * slice_index ks (2 ^ h - 1)) then further (way h n ks ws)
     else further (way h (n - slice_index ws (2 ^ h - 1)) (drop (2 ^ h) ks) (drop (2 ^ h) ws))
 
--- this way was gone
+-- this way gives the level f in s steps
 unfoldable pub Goes : ℕ → ℕ → List ℕ → List ℕ → Fraction → ℕ → Type 0
 Goes h n ks ws f s = way h n ks ws ≡ record { level = level_of f; steps = s }

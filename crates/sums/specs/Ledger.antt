@@ -9,10 +9,11 @@ use Rattle.register.specs.declared.rows.Unfit.{Unfit}
 use Rattle.sums.specs.Nodes.{sums_of}
 use Rattle.sums.specs.Renewing.{Renewal}
 
--- how many claims there is room for, and the rows of the register
+-- how many claims there is room for
 abbrev pub room : List ℕ → ℕ
 room ws = length ws / 3
 
+-- the first two rows, which are the register
 abbrev pub register : List ℕ → List ℕ
 register ws = take (2 * room ws) ws
 

@@ -30,7 +30,8 @@ pub record Leads (e s : ℕ) (t : Tree) (r : Terms) : Type 0 where
   pub level : r.level ≡ way.level
   pub down : Descended t.claims.now t.sums.now (target_of_sum e s) way
 
--- what is found, of what is there; no more is divided than these words tell that is claimed
+-- The terms that are found where so much is there: none where that is more than may be, and else those on which it is
+-- divided. No more is divided than the words tell that is claimed.
 abbrev pub LeadsTo : ℕ → Tree → Option Terms → Type 0
 LeadsTo there t None = most_there < there
 LeadsTo there t (Some r) =
