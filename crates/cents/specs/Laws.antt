@@ -25,8 +25,8 @@ AllCome items =
     (d e : ℕ) (xs : List ℕ) (r : _) → 0 < d → length xs ≤ most_creditors → sum xs ≡ d * e → Comes items d xs r → IsOkAnd r (λ c. Whole d e xs (cents_of items c))
 
 -- The cents ys are paid to an estate on these terms: its shares divide it, the cents come of these shares, there is an
--- amount for each claim, together what is divided, each less than a cent away from the share, and none above the claim. It is
--- what this desk is to say.
+-- amount for each claim, together what is divided, each less than a cent away from the share, and none above the claim. It
+-- is what this desk is to say.
 pub record Paid (e : Estate) (t : Terms) (ys : List ℕ) : Type 0 where
   pub divided_by : Divided e t
   pub come : ys ≡ in_cents (parts_word t) (divided e) (shares_on t (counted e))

@@ -83,7 +83,8 @@ impl<L: Numbers> Rounding<L> {
         requires few { length (L.items self.now.shares) ≤ most_creditors }
         requires some { 0 < most }
         requires most { (i : ℕ) → lack_of L.items self.now more.old i ≤ most }
-        ensures given { given_of L.items self.now result more.new ≡ given_of L.items self.now cents more.old }
+        ensures given { given_of L.items self.now result more.new
+            ≡ given_of L.items self.now cents more.old }
         ensures fewer { result ≤ cents }
         ensures served { 0 < result → (i : ℕ) → lack_of L.items self.now more.new i < most }
         ensures same { result ≡ cents → more.new ≡ more.old }

@@ -127,7 +127,8 @@ impl<'a> Cents<Shares<'a>> {
     // The whole cents of claims on the terms of a division.
     #[tactic(auto, using(crate::proofs::Pay::cents_pay, crate::proofs::Remainders::few_remainders))]
     pub fn of(shares: Shares<'a>) -> Result<Self, CentsError>
-        ensures comes { Comes shares_of (parts_word shares.entry.terms) (shares_of shares.entry) result }
+        ensures comes { Comes shares_of (parts_word shares.entry.terms)
+            (shares_of shares.entry) result }
         ensures cents_pay { CentsPay }
         ensures few_remainders { FewRemainders }
     {

@@ -6,7 +6,6 @@ use Rattle.std.proofs.lemmas.Bool.{false≢true}
 use Rattle.std.specs.Result.{IsOkAnd}
 use Rattle.estate.specs.Answers.{Answer, number, parts, amounts}
 use Rattle.estate.specs.Calls.{Call, shares, cents}
-use Rattle.estate.specs.Refusals.{checks_alone, first_refusal}
 use Rattle.estate.proofs.WholeCents.{cents_rounded}
 use Rattle.shares.specs.declared.written.Shares.{Shares}
 use Rattle.shares.specs.Shares.{parts_word, share_word, shares_of}
@@ -23,34 +22,34 @@ use Rattle.wire.specs.declared.refusals.Refusal.TheVariants.{NotLent}
 use Rattle.wire.proofs.Bytes.{length-row}
 use Rattle.desk.specs.Memory.{estate_of, Stands, Lent}
 use Rattle.desk.specs.Steps.{Parted, Termed, Sends, Does}
-use Rattle.desk.specs.Calling.{is_refused, Served, SameBounds, Told, Replied, Called}
+use Rattle.desk.specs.Calling.{is_refused, Served, SameBounds, Told, turned_alone, Replied, Called}
 use Rattle.desk.specs.Opening.{refusal}
 use Rattle.desk.proofs.Words.{claims_counted}
 use Rattle.desk.proofs.Keeping.{unchanged}
 
 -- a call in which nothing is wrong by itself is not turned away for that
-pub not_alone : (c : Call) (X : Type 0) → first_refusal (checks_alone c) ≡ 0 → (first_refusal (checks_alone c) == 0) ≡ false → X
+pub not_alone : (c : Call) (X : Type 0) → turned_alone c ≡ 0 → (turned_alone c == 0) ≡ false → X
 not_alone c X none f = absurd (false≢true (sym (rw none at f)))
 
 module _ (m out : List ℕ) (lent : Lent m out) where
   -- what is said of the answer to a call that is not turned away by itself
-  replied : (c : Call) (new : List ℕ) (a : Answer) → first_refusal (checks_alone c) ≡ 0 → (Stands m → Served c m new a) → Told c m new a → SameBounds m new → Replied c m new out a
+  replied : (c : Call) (new : List ℕ) (a : Answer) → turned_alone c ≡ 0 → (Stands m → Served c m new a) → Told c m new a → SameBounds m new → Replied c m new out a
   replied c new a none served told bounds =
       record { served = λ d l. served d; unlent = λ un. absurd (un lent); alone = not_alone c _ none; told = λ l. told; bounds = bounds }
 
   -- an answer that is no refusal, and for which there is room
-  answered_by : (c : Call) (new sent : List ℕ) (a : Answer) (r : Result ℕ TurnedAway) → first_refusal (checks_alone c) ≡ 0 → is_refused a ≡ false → length (answer_row a) ≤ length out → (Stands m → Served c m new a) → Told c m new a → SameBounds m new → Sends a out sent r → Called c m new out sent r
+  answered_by : (c : Call) (new sent : List ℕ) (a : Answer) (r : Result ℕ TurnedAway) → turned_alone c ≡ 0 → is_refused a ≡ false → length (answer_row a) ≤ length out → (Stands m → Served c m new a) → Told c m new a → SameBounds m new → Sends a out sent r → Called c m new out sent r
   unfolding Sends Called
   answered_by c new sent a (Ok n) none plain room served told bounds w =
       (a, (w.0, w.1, plain), replied c new a none served told bounds, tt)
   answered_by c new sent a (Err t) none plain room served told bounds w = let no_room : ⊥ = omega (arith, room, w) in absurd no_room
 
-  pub number_done : (c : Call) (new sent : List ℕ) (n : ℕ) (r : Result ℕ TurnedAway) → first_refusal (checks_alone c) ≡ 0 → Does c m new (Ok n) → Sends (number n) out sent r → Called c m new out sent r
+  pub number_done : (c : Call) (new sent : List ℕ) (n : ℕ) (r : Result ℕ TurnedAway) → turned_alone c ≡ 0 → Does c m new (Ok n) → Sends (number n) out sent r → Called c m new out sent r
   unfolding Does
   number_done c new sent n r none d w =
       answered_by c new sent (number n) r none refl (omega (arith, lent.bytes, length-row)) d.0 d.1 d.3 w
 
-  pub number_refused : (c : Call) (new : List ℕ) (t : TurnedAway) → first_refusal (checks_alone c) ≡ 0 → Does c m new (Err t) → Called c m new out out (Err t)
+  pub number_refused : (c : Call) (new : List ℕ) (t : TurnedAway) → turned_alone c ≡ 0 → Does c m new (Err t) → Called c m new out out (Err t)
   unfolding Does Called
   number_refused c new t none d =
       (refusal t, (refl, refl), replied c new (refusal t) none d.0 d.1 d.3, d.2)

@@ -7,7 +7,7 @@ use Rattle.estate.specs.Answers.{Answer, refused}
 use Rattle.estate.specs.Estates.{Estate, counted}
 use Rattle.estate.specs.Limits.{Limits}
 use Rattle.estate.specs.Calls.{Call, claims, proves, comes, shares, cents, garbled}
-use Rattle.estate.specs.Refusals.{checks_alone, first_refusal, turned, place}
+use Rattle.estate.specs.Refusals.{turned, place}
 use Rattle.estate.specs.Right.{answered}
 use Rattle.wire.specs.Calls.{narrow}
 use Rattle.wire.specs.Reading.{read, Heard}
@@ -15,14 +15,14 @@ use Rattle.wire.specs.declared.refusals.TurnedAway.{TurnedAway}
 use Rattle.wire.specs.declared.refusals.Refusal.TheVariants.{Unreadable, TooLarge, NotLent}
 use Rattle.wire.proofs.Narrow.{narrow_enough}
 use Rattle.desk.specs.Memory.{limits_of, estate_of, Headed, Lent}
-use Rattle.desk.specs.Calling.{Told, Called, turned_unlent}
+use Rattle.desk.specs.Calling.{Told, Called, turned_alone, turned_unlent}
 use Rattle.desk.specs.Opening.{refusal}
 use Rattle.desk.proofs.Keeping.{refused_by, refused_told, unchanged}
 use Rattle.desk.proofs.Words.{claims_counted}
 use Rattle.desk.proofs.Answering.{not_alone}
 
 -- what is checked of a call alone does not depend on the width of a place
-narrow_alone : (c : Call) → (first_refusal (checks_alone (narrow c)) ≡ first_refusal (checks_alone c)) × (turned_unlent (narrow c) ≡ turned_unlent c)
+narrow_alone : (c : Call) → (turned_alone (narrow c) ≡ turned_alone c) × (turned_unlent (narrow c) ≡ turned_unlent c)
 narrow_alone (claims c) = (refl, refl)
 narrow_alone (proves i c) = (refl, refl)
 narrow_alone (comes x) = (refl, refl)
@@ -63,21 +63,21 @@ widened c m new out sent r (a, g, s, k) = (
 )
 
 -- what turns a call away by itself does so on every estate
-turned_alone : (l : Limits) (e : Estate) (c : Call) → (first_refusal (checks_alone c) == 0) ≡ false → turned l e c ≡ first_refusal (checks_alone c)
-turned_alone l e (claims c) f = grind (arith, nat_tests)
-turned_alone l e (proves i c) f = grind (arith, nat_tests)
-turned_alone l e (comes x) f = grind (arith, nat_tests)
-turned_alone l e shares f = absurd (false≢true (sym f))
-turned_alone l e cents f = absurd (false≢true (sym f))
-turned_alone l e (garbled n) f = refl
+turned_same : (l : Limits) (e : Estate) (c : Call) → (turned_alone c == 0) ≡ false → turned l e c ≡ turned_alone c
+turned_same l e (claims c) f = grind (arith, nat_tests)
+turned_same l e (proves i c) f = grind (arith, nat_tests)
+turned_same l e (comes x) f = grind (arith, nat_tests)
+turned_same l e shares f = absurd (false≢true (sym f))
+turned_same l e cents f = absurd (false≢true (sym f))
+turned_same l e (garbled n) f = refl
 
-pub answered_alone : (l : Limits) (e : Estate) (c : Call) → (first_refusal (checks_alone c) == 0) ≡ false → answered l e c ≡ turned_unlent c
-answered_alone l e c f = rw (turned_alone l e c f, f) refl
+pub answered_alone : (l : Limits) (e : Estate) (c : Call) → (turned_alone c == 0) ≡ false → answered l e c ≡ turned_unlent c
+answered_alone l e c f = rw (turned_same l e c f, f) refl
 
-turned_away : (c : Call) (m out : List ℕ) (t : TurnedAway) → (first_refusal (checks_alone c) == 0) ≡ false → refusal t ≡ refused (first_refusal (checks_alone c)) (place c (first_refusal (checks_alone c))) → Called c m m out out (Err t)
+turned_away : (c : Call) (m out : List ℕ) (t : TurnedAway) → (turned_alone c == 0) ≡ false → refusal t ≡ refused (turned_alone c) (place c (turned_alone c)) → Called c m m out out (Err t)
 unfolding Called
 turned_away c m out t f is =
-    let n = turned_alone (limits_of m) (estate_of m) c f in (
+    let n = turned_same (limits_of m) (estate_of m) c f in (
       refusal t,
       (refl, refl),
       record {
@@ -91,10 +91,10 @@ turned_away c m out t f is =
     )
 
 module _ (c : Call) (m out : List ℕ) (t : TurnedAway) where
-  pub too_large : (p : ℕ) → t ≡ record { why = TooLarge; place = p } → first_refusal (checks_alone c) ≡ 2 → p ≡ place c 2 → Called c m m out out (Err t)
+  pub too_large : (p : ℕ) → t ≡ record { why = TooLarge; place = p } → turned_alone c ≡ 2 → p ≡ place c 2 → Called c m m out out (Err t)
   too_large p is f at = turned_away c m out t (rw f refl) (rw (is, f, at) refl)
 
-  pub too_little : t ≡ record { why = NotLent; place = 1 } → first_refusal (checks_alone c) ≡ 0 → (Lent m out → ⊥) → Called c m m out out (Err t)
+  pub too_little : t ≡ record { why = NotLent; place = 1 } → turned_alone c ≡ 0 → (Lent m out → ⊥) → Called c m m out out (Err t)
   unfolding Called
   too_little is f un =
       (refusal t, (refl, refl), record { served = λ d l. absurd (un l); unlent = λ n. rw (f, is) refl; alone = not_alone c _ f; told = λ l. absurd (un l); bounds = unchanged m }, refl)

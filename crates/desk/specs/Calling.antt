@@ -39,9 +39,9 @@ abbrev pub AsTold : Call → List ℕ → List ℕ → Answer → Type 0
 AsTold c m new a =
     (a ≡ answered (limits_of m) (estate_of m) c) × (estate_of new ≡ after (limits_of m) (estate_of m) c)
 
--- Where the header may be a desk's, whatever else memory holds: so it is with claims and with cents that come; a claim that is
--- proved may be refused instead, as one that is not there; shares and cents change nothing and are answered in their kind, but
--- cents may be refused, as too little is.
+-- Where the header may be a desk's, whatever else memory holds: so it is with claims and with cents that come; a claim that
+-- is proved may be refused instead, as one that is not there; shares and cents change nothing and are answered in their
+-- kind, but cents may be refused, as too little is.
 abbrev pub Told : Call → List ℕ → List ℕ → Answer → Type 0
 Told (claims c) m new a = AsTold (claims c) m new a
 Told (proves i c) m new a = AsTold (proves i c) m new a ⊎ ((a ≡ refused not_there 0) × (new ≡ m))
@@ -50,23 +50,27 @@ Told shares m new a = (new ≡ m) × (d : ℕ) × (xs : List ℕ) × (a ≡ part
 Told cents m new a = (new ≡ m) × (((ys : List ℕ) × (a ≡ amounts ys)) ⊎ (a ≡ refused not_lent 1))
 Told (garbled n) m new a = AsTold (garbled n) m new a
 
+-- the number by which a call is turned away by itself, on every estate, or 0
+abbrev pub turned_alone : Call → ℕ
+turned_alone c = first_refusal (checks_alone c)
+
 -- what turns a call away where no desk can be, or too little is lent for it: what is checked of it alone, or else that
 abbrev pub turned_unlent : Call → Answer
 turned_unlent c =
-    let n : ℕ = first_refusal (checks_alone c) in
-    if n == 0 then refused not_lent 1 else refused n (place c n)
+    if turned_alone c == 0 then refused not_lent 1 else refused (turned_alone c) (place c (turned_alone c))
 
--- What is said of the answer a to the call c, and of memory m afterwards: where a desk stands, and enough is lent, the answer is
--- the one of the definitions, and memory is that of the estate after the call; where no desk can be, or too little is lent
--- for it, and wherever the call is turned away by itself, it is that refusal; of other memory `Told` says what is left.
+-- What is said of the answer a to the call c, and of memory m afterwards: where a desk stands, and enough is lent, the
+-- answer is the one of the definitions, and memory is that of the estate after the call; where no desk can be, or too little
+-- is lent for it, and wherever the call is turned away by itself, it is that refusal; of other memory `Told` says what is
+-- left.
 pub record Replied (c : Call) (m new out : List ℕ) (a : Answer) : Type 0 where
   pub served : Stands m → Lent m out → Served c m new a
   pub unlent : (Lent m out → ⊥) → a ≡ turned_unlent c
-  pub alone : (first_refusal (checks_alone c) == 0) ≡ false → a ≡ turned_unlent c
+  pub alone : (turned_alone c == 0) ≡ false → a ≡ turned_unlent c
   pub told : Lent m out → Told c m new a
   pub bounds : SameBounds m new
 
--- What the call c leaves of memory m and of the bytes out: an answer is given of which this is so. A call that is turned away
--- leaves memory as it was, whatever that held.
+-- What the call c leaves of memory m and of the bytes out: an answer is given of which this is so. A call that is turned
+-- away leaves memory as it was, whatever that held.
 unfoldable pub Called : Call → List ℕ → List ℕ → List ℕ → List ℕ → Result ℕ TurnedAway → Type 0
 Called c m new out sent r = (a : Answer) × Given a out sent r × Replied c m new out a × IfErr r (λ _. new ≡ m)

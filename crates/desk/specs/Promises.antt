@@ -1,5 +1,5 @@
--- What is promised of a desk, said of every desk that does as the contracts of `open` and `call` say. Each is named by one of
--- these contracts. Assumes nothing.
+-- What is promised of a desk, said of every desk that does as the contracts of `open` and `call` say. Each is named by one
+-- of these contracts. Assumes nothing.
 use Rattle.std.specs.Prelude.{◌≡◌, ℕ, ◌≤◌, List, ◌++◌, Ok, Result}
 use Rattle.estate.specs.Calls.{Call}
 use Rattle.estate.specs.Changes.{after}

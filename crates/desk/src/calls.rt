@@ -1,9 +1,9 @@
 // A call on a desk, read, checked, done and answered.
 ghost use Rattle.std.specs.Prelude.{◌≡◌, IfSome, IfNone};
-ghost use Rattle.estate.specs.Refusals.{checks_alone, first_refusal, place, too_large};
+ghost use Rattle.estate.specs.Refusals.{place, too_large};
 ghost use Rattle.wire.specs.Meaning.{heard, meaning, told};
 ghost use Rattle.wire.specs.Reading.{read};
-ghost use Rattle.desk.specs.Calling.{Called};
+ghost use Rattle.desk.specs.Calling.{Called, turned_alone};
 ghost use Rattle.desk.specs.Steps.{Reads, Sends};
 ghost use Rattle.desk.specs.Memory.{Lent};
 ghost use Rattle.desk.specs.Promises.{DesksRight, RefusalsKeep, DescribedObeys};
@@ -47,8 +47,8 @@ fn answer(
 
 // The call, if the cents in it are not too many.
 fn moderate(call: Call) -> Option<Call>
-    ensures some { IfSome result (λ c. (c ≡ call) × (first_refusal (checks_alone (meaning call)) ≡ 0)) }
-    ensures none { IfNone result (first_refusal (checks_alone (meaning call)) ≡ too_large) }
+    ensures some { IfSome result (λ c. (c ≡ call) × (turned_alone (meaning call) ≡ 0)) }
+    ensures none { IfNone result (turned_alone (meaning call) ≡ too_large) }
 {
     let cents = match call {
         Call::Claim(cents) | Call::Prove(_, cents) | Call::Come(cents) => cents,
@@ -73,7 +73,7 @@ impl Header {
     fn serve(self, mem: &mut [u64], call: Call, out: &mut [u8]) -> Result<usize, TurnedAway>
         requires reads { Reads self mem.old }
         requires lent { Lent mem.old out.old }
-        requires moderate { first_refusal (checks_alone (meaning call)) ≡ 0 }
+        requires moderate { turned_alone (meaning call) ≡ 0 }
         ensures { Called (meaning call) mem.old mem.new out.old out.new result }
     {
         let number = match call {

@@ -21,8 +21,8 @@ register ws = take (2 * room ws) ws
 abbrev pub ledger : List ℕ → List ℕ → List ℕ
 ledger ws cs = kept (register ws) cs ++ over (sums_of (sorted cs)) (drop (2 * room ws) ws)
 
--- The register has become `front`. Of its n claims in order those from place a on and before b may be others; so the sums over
--- these are renewed. Every other word is as it was.
+-- The register has become `front`. Of its n claims in order those from place a on and before b may be others; so the sums
+-- over these are renewed. Every other word is as it was.
 pub record Resummed (n a b : ℕ) (ws front new : List ℕ) : Type 0 where
   pub sums : List ℕ
   pub renewed : Renewal a b (part (room ws) n front) (part (2 * room ws) n ws) sums

@@ -5,7 +5,8 @@ use Rattle.std.specs.List.{range_with_len}
 use Rattle.level.specs.Words.{held}
 
 -- The first claim that the node at place j sums over: of j in binary digits the ones that it ends in become zeros. So the
--- node at 2 ^ h - 1 sums over all claims up to it, and those on either side of it, before and behind, are trees of their own.
+-- node at 2 ^ h - 1 sums over all claims up to it, and those on either side of it, before and behind, are trees of their
+-- own.
 unfoldable pub first : ℕ → ℕ
 first j = bit_and j (j + 1)
 

@@ -9,8 +9,8 @@ abbrev pub Outside : ℕ → ℕ → ℕ → Type 0
 Outside a b j = (j < a) ⊎ (b ≤ first j)
 
 -- Claims from place a on and before b have changed, and are ks now. A word that sums over one of these is made anew, of its
--- claim and of what the words tell that stand before it in its own part of the tree; the others are as they were. Where these
--- were the nodes over the claims, all words are so afterwards.
+-- claim and of what the words tell that stand before it in its own part of the tree; the others are as they were. Where
+-- these were the nodes over the claims, all words are so afterwards.
 pub record Renewal (a b : ℕ) (ks ws new : List ℕ) : Type 0 where
   pub long : length new ≡ length ws
   pub untouched : (j : ℕ) → j < length ws → Outside a b j → slice_index new j ≡ slice_index ws j

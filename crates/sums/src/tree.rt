@@ -10,8 +10,8 @@ ghost use Rattle.sums.specs.Nodes.{sums_of};
 use crate::descending::{Descent, descend, height, total};
 use level::{Estate, Terms};
 
-// Claims, and a word beside each. They are a tree where the claims ascend and the words are the sums over them; the contracts
-// say too what is found in any others.
+// Claims, and a word beside each. They are a tree where the claims ascend and the words are the sums over them; the
+// contracts say too what is found in any others.
 #[derive(Clone, Copy, Debug)]
 pub struct Tree<'a> {
     pub claims: &'a [u64],

@@ -13,8 +13,8 @@ use Rattle.transcript.specs.Transcripts.{answers, line, lines, Answers, AllRight
 use Rattle.transcript.specs.Laws.{OneTranscript, EachRight}
 use Rattle.transcript.proofs.Cuts.{held_once, calls_held, unread_held, is_cut}
 
--- Of a file, which is answered for the estate start, the bytes rest are left, and text answers the calls before them: whatever
--- calls the rest holds, the whole holds these behind others, and their answers for the estate e complete the text.
+-- Of a file, which is answered for the estate start, the bytes rest are left, and text answers the calls before them:
+-- whatever calls the rest holds, the whole holds these behind others, and their answers for the estate e complete the text.
 unfoldable pub Going : Estate → List ℕ → List ℕ → Estate → List ℕ → Type 0
 Going start bytes rest e text =
     (cs : List Call) → Holds rest cs → (all : List Call) × Holds bytes all × (lines (answers served start all) ≡ text ++ lines (answers served e cs))

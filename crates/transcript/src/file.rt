@@ -9,8 +9,8 @@ use std::alloc::{AllocError, Global};
 use text::Shown;
 use wire::Calls;
 
-// The answers to the calls that a file holds, one behind the other, a line for each. What cannot be read is answered once, as
-// the last.
+// The answers to the calls that a file holds, one behind the other, a line for each. What cannot be read is answered once,
+// as the last.
 #[tactic(auto, using(crate::proofs::Lines::laws))]
 pub fn transcript(heap: Global, calls: &[u8]) -> Result<String, AllocError>
     ensures lines { IfOk result (λ text. IsTranscript calls.now (string_bytes text)) }
