@@ -3,6 +3,7 @@ use Rattle.std.proofs.Common.{◌≡◌, ℕ, ◌+◌, ◌-◌, ◌*◌, ◌/◌
 use mathlib.Core.Logic.{◌⊎◌, inl}
 use Rattle.std.proofs.lemmas.List.{places, take-append-drop, take_at, ext_get_or, length-take-le, get_or-take, get_or-set_other, get_or_append_left, length-set, length_push}
 use Rattle.std.proofs.lemmas.Slice.{drop-append-drop}
+use Rattle.std.proofs.lemmas.Grind.{elements}
 use Rattle.estate.specs.Order.{sorted}
 use Rattle.estate.proofs.Ordered.{length-sorted, rising_sorted}
 use Rattle.register.specs.Row.{part, Carried}
@@ -92,10 +93,9 @@ module _ (us cs ds : List ℕ) (few : length cs ≤ room us) (fits_too : length 
 -- the claims in order in a register, one by one
 order_at : (ws cs : List ℕ) (i : ℕ) → length cs ≤ middle ws → i < length cs → slice_index (kept ws cs) (middle ws + i) ≡ slice_index (sorted cs) i
 order_at ws cs i few l =
-    let order = kept_order ws cs few in
-    let taken = get_or-take (length cs) (drop (middle ws) (kept ws cs)) i 0 l in
-    let dropped = get_or-drop (middle ws) (kept ws cs) i 0 in
-    sym dropped ∙ sym taken ∙ ap (λ ks. slice_index ks i) order
+    sym (get_or-drop (middle ws) (kept ws cs) i 0)
+    ∙ sym (get_or-take (length cs) (drop (middle ws) (kept ws cs)) i 0 l)
+    ∙ ap (λ ks. slice_index ks i) (kept_order ws cs few)
 
 -- where nothing moved among those in order, the claims there are as they were
 unmoved : (ws cs ds : List ℕ) (p c from to i : ℕ) → length cs ≤ middle ws → length ds ≤ middle ws → p < middle ws → Carried from to c (set (kept ws cs) p c) (kept ws ds) → i < length cs → i < length ds → ((middle ws + i < from) × (middle ws + i < to)) ⊎ ((from < middle ws + i) × (to < middle ws + i)) → slice_index (sorted ds) i ≡ slice_index (sorted cs) i
@@ -148,16 +148,12 @@ pub ruleset added = (starts, adds)
 
 pub ruleset changed = (changes, ordered)
 
--- a part of the first of two lists
-part-append : (k n : ℕ) (xs ys : List ℕ) → k + n ≤ length xs → take k (drop n (xs ++ ys)) ≡ take k (drop n xs)
-part-append k n xs ys within = ext_get_or 0 _ _ (grind (arith, places)) (λ i h. grind (arith, places))
-
 pub reads : Reads
 unfolding Reads
 reads us cs t few claims sums =
     let two : room (ledger us cs) ≡ room us = ap (λ n. n / 3) (ledger_long us cs few) in
     let order : part (room us) (length cs) (ledger us cs) ≡ sorted cs =
-    part-append (length cs) (room us) (kept (register us) cs) (row us cs) (omega (arith, front_long us cs few))
+    (let long = front_long us cs few in grind (arith, elements))
     ∙ ap (λ n. part n (length cs) (kept (register us) cs)) (sym (halves us))
     ∙ kept_order (register us) cs (fits us cs few) in
     let all : take (length cs) (row us cs) ≡ sums_of (sorted cs) = take_at (sums_of (sorted cs)) _ (length cs) (sums_long us cs few) in

@@ -64,8 +64,7 @@ reach c (suc k) (x ∷ xs) above room =
 
 fill_past : (m p n : ℕ) (ks : List ℕ) → IsNonDecreasing ks → length ks ≡ suc m + p → sum (take (suc m) ks) + p * slice_index ks m < n → fill n ks ≡ fill (n - sum (take (suc m) ks)) (drop (suc m) ks)
 unfolding fill
-fill_past zero p n [] rise long more = absurd (omega arith)
-fill_past (suc m) p n [] rise long more = absurd (omega arith)
+fill_past m p n [] rise long more = absurd (omega arith)
 fill_past zero p n (c ∷ cs) rise long more = let same : length cs ≡ p = omega arith in grind (arith, nat_tests)
 fill_past (suc m) p n (c ∷ cs) rise long more =
     let above = rising_head c cs rise in

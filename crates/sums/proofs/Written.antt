@@ -89,9 +89,7 @@ module _ (h m a b : ℕ) (middle : m + 1 ≡ 2 ^ h) (ks ws : List ℕ) (few : le
     all_three = left ++ (v ∷ right)
 
     same_left : (j : ℕ) → j < m → held (total_of (drop (first j) (take j left)) + slice_index (take m ks) j) ≡ held (total_of (drop (first j) (take j all_three)) + slice_index ks j)
-    same_left j i =
-        ap (λ xs. held (total_of (drop (first j) xs) + slice_index (take m ks) j)) (sym (take-append-le j left (v ∷ right) (omega arith)))
-        ∙ ap (λ c. held (total_of (drop (first j) (take j all_three)) + c)) (get_or-take m ks j 0 i)
+    same_left j i = rw (take-append-le j left (v ∷ right) (omega arith), get_or-take m ks j 0 i) refl
 
     same_middle : held (total_of left + slice_index ks m) ≡ held (total_of (drop (first m) (take m all_three)) + slice_index ks m)
     same_middle = rw (first_middle h m middle, take_at left (v ∷ right) m size) refl
@@ -102,7 +100,7 @@ module _ (h m a b : ℕ) (middle : m + 1 ≡ 2 ^ h) (ks ws : List ℕ) (few : le
         ap (λ xs. drop (first k) (take k xs)) (sym (drop_right m v left right size))
         ∙ sym (drop-take-part (first k) k (m + 1 + k) (m + 1) all_three refl)
         ∙ ap (λ n. drop n (take (m + 1 + k) all_three)) (sym (first_right h m middle k room)) in
-        rw part (ap (λ c. held (total_of (drop (first (m + 1 + k)) (take (m + 1 + k) all_three)) + c)) (get_or-drop (m + 1) ks k 0))
+        rw (part, get_or-drop (m + 1) ks k 0) refl
 
   -- a tree one higher, of its two parts and the middle
   module _ (left right : List ℕ) (v : ℕ) (l : Renewal a b (take m ks) (take m ws) left) (r : Renewal (a - (m + 1)) (b - (m + 1)) (drop (m + 1) ks) (drop (m + 1) ws) right) where
