@@ -9,7 +9,7 @@ use Rattle.estate.specs.Calls.{Call, claims, proves, comes, shares, cents, garbl
 use Rattle.estate.specs.Changes.{changed, after, ran}
 use Rattle.estate.specs.Desks.{Memory, Desk, all_right, left_by}
 use Rattle.estate.specs.Estates.{Estate, new_estate}
-use Rattle.estate.specs.Limits.{Limits, most_creditors, most_cents}
+use Rattle.estate.specs.Limits.{Limits, most_cents}
 use Rattle.estate.specs.Refusals.{turned}
 use Rattle.estate.specs.Right.{right, answered}
 use Rattle.estate.proofs.RightAnswers.{answered_right}
