@@ -41,7 +41,7 @@ module _ (d : ℕ) where
   same_rounded up also xs h = λ i. rounded_all d (λ k. h k i) xs
 
   pub rounded_all-one_more : (up also : ℕ → Bool) (xs : List ℕ) (j : ℕ) → j < length xs → up j ≡ false → also j ≡ true → ((k : ℕ) → k ≢ j → also k ≡ up k) → 0 < get_or xs j 0 % d → rounded_all d also xs ≡ one_more (rounded_all d up xs) (suc j)
-  unfolding rounded_all one_more
+  unfolding rounded_all
   rounded_all-one_more up also [] j l p q same h = absurd (omega (arith, l))
   rounded_all-one_more up also (x ∷ xs) zero l p q same h =
       let first : rounded d (also 0) x ≡ suc (rounded d (up 0) x) = rw (p, q) (round_up x h) in

@@ -2,21 +2,16 @@
 use Rattle.std.proofs.Common.{◌≡◌, ◌≢◌, ℕ, zero, suc, ◌+◌, ◌-◌, ◌*◌, ◌%◌, ◌<◌, ◌≤◌, Bool, true, false, cond, List, [], ◌∷◌, length, get_or, refl, sym, arith}
 use Rattle.std.proofs.Math.Nat.{mod-le}
 use Rattle.estate.proofs.Rows.{inside}
-use Rattle.estate.specs.Cents.{downs, lacks_most, one_more, give_left}
+use Rattle.estate.specs.Cents.{downs, lacks_most, give_left}
 use Rattle.estate.proofs.WholeCents.{first_found, none_found}
 use Rattle.cents.specs.Rounding.{rounded, rounded_all, lack}
 use Rattle.cents.proofs.Amounts.{length-rounded_all, rounded_all-one_more, lacked-rounded_all}
 
--- of who lacks most, one_more 0 is nobody
-stays : (ys : List ℕ) → one_more ys 0 ≡ ys
-unfolding one_more
-stays [] = refl
-stays (y ∷ ys) = refl
-
+-- where nobody lacks anything, nobody has a cent more
 give_none : (n d : ℕ) (xs ys : List ℕ) → lacks_most d xs ys 0 0 0 ≡ 0 → give_left n d xs ys ≡ ys
 unfolding give_left
 give_none zero d xs ys h = refl
-give_none (suc n) d xs ys h = rw (h, stays ys) (give_none n d xs ys h)
+give_none (suc n) d xs ys h = rw h (give_none n d xs ys h)
 
 -- where nobody is marked each share is rounded down
 pub none_given : (d : ℕ) (up : ℕ → Bool) (xs : List ℕ) → ((k : ℕ) → up k ≡ false) → rounded_all d up xs ≡ downs d xs

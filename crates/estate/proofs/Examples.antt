@@ -6,7 +6,7 @@ use Rattle.std.proofs.lemmas.List.Sums.{AllPass-from_list_all}
 use Rattle.std.proofs.lemmas.Slice.Eq.{bytes_eq-Decides}
 use Rattle.estate.specs.Pairs.{with_all, pairwise, none_above}
 use Rattle.estate.specs.Division.{divides}
-use Rattle.estate.specs.Cents.{lacks_most, one_more, give_left, in_cents}
+use Rattle.estate.specs.Cents.{lacks_most, give_left, in_cents}
 use Rattle.estate.specs.Order.{insert, sorted}
 use Rattle.estate.specs.Level.{fill}
 use Rattle.estate.specs.Closed.{denominator, division}
@@ -42,5 +42,5 @@ module _ (x : Example) where
       }
 
 pub examples_hold : All Worked table
-unfolding with_all pairwise none_above lacks_most one_more give_left insert sorted fill
+unfolding with_all pairwise none_above lacks_most give_left insert sorted fill
 examples_hold = All-weaker (λ x. tests x ≡ true) Worked worked table (AllPass-from_list_all tests table refl)

@@ -1,5 +1,5 @@
 -- How large the numbers of a division are within the limits. Assumes nothing.
-use Rattle.std.proofs.Common.{◌≡◌, ℕ, ◌*◌, ◌≤◌, List, length, arith, mul-le-mul}
+use Rattle.std.proofs.Common.{ℕ, ◌*◌, ◌≤◌, List, arith, mul-le-mul}
 use Rattle.std.proofs.lemmas.List.{places}
 use Rattle.std.specs.Prelude.{slice_index}
 use Rattle.estate.specs.Closed.{denominator, division}

@@ -1,12 +1,13 @@
 -- Who is found to lack most; whole cents add up, and nobody has a cent more or less than the share. Assumes nothing.
-use Rattle.std.proofs.Common.{◌≡◌, ℕ, zero, suc, ◌+◌, ◌-◌, ◌*◌, ◌/◌, ◌<◌, ◌≤◌, Bool, true, false, cond, ltb, ◌⊎◌, List, [], ◌∷◌, length, get_or, sym, refl, ap, ◌∙◌, inl, inr, arith, sum}
+use Rattle.std.proofs.Common.{◌≡◌, ℕ, zero, suc, ◌+◌, ◌-◌, ◌*◌, ◌/◌, ◌<◌, ◌≤◌, Bool, true, false, cond, ltb, ◌⊎◌, List, [], ◌∷◌, length, get_or, sym, refl, ap, ◌∙◌, inl, inr, ⊎_elim, ◌≢◌, arith, sum}
 use native.Mathlib.Nat.{le_of_mul-le-mul_left, lt_of_mul-lt-mul_left, zero-div}
-use Rattle.std.proofs.lemmas.List.{length-map}
-use Rattle.std.proofs.lemmas.Bool.{ltb-true, ltb-false, lt-ltb, le-ltb}
+use Rattle.std.proofs.lemmas.List.{length-map, length-set, get_or-set_same, get_or-set_other}
+use Rattle.std.proofs.lemmas.List.Sums.{sum_by-set}
+use Rattle.std.proofs.lemmas.Bool.{cases_eq, ltb-true, ltb-false, lt-ltb, le-ltb}
 use Rattle.estate.specs.Cents.{downs, lacks_most, one_more, give_left, in_cents, Near}
 use Rattle.estate.specs.Promises.{CentsAddUp}
 use Rattle.estate.proofs.Facts.{facts}
-use Rattle.estate.proofs.Rows.{get_or-map_zero, inside, sum-cons, sum_apart}
+use Rattle.estate.proofs.Rows.{get_or-map_zero, inside, sum_apart}
 
 module _ (d : ℕ) where
   abbrev lacked : List ℕ → List ℕ → ℕ → ℕ
@@ -59,27 +60,6 @@ module _ (d : ℕ) where
       next true f = omega (arith, f (x - d * y) (suc i) (before 0 (omega arith)))
       next false f = omega (arith, f most was more)
 
--- what is true of each at its place stays so, if it is true of the one who has one more
-one_more_each : (P : ℕ → ℕ → Type 0) (ys : List ℕ) (j : ℕ) → ((i : ℕ) → P i (get_or ys i 0)) → P j (suc (get_or ys j 0)) → (i : ℕ) → P i (get_or (one_more ys (suc j)) i 0)
-unfolding one_more
-one_more_each P [] j each here i = each i
-one_more_each P (y ∷ ys) zero each here zero = here
-one_more_each P (y ∷ ys) zero each here (suc i) = each (suc i)
-one_more_each P (y ∷ ys) (suc j) each here zero = each 0
-one_more_each P (y ∷ ys) (suc j) each here (suc i) = one_more_each (λ k. P (suc k)) ys j (λ k. each (suc k)) here i
-
-length-one_more : (ys : List ℕ) (j : ℕ) → length (one_more ys (suc j)) ≡ length ys
-unfolding one_more
-length-one_more [] j = refl
-length-one_more (y ∷ ys) zero = refl
-length-one_more (y ∷ ys) (suc j) = ap suc (length-one_more ys j)
-
-sum-one_more : (ys : List ℕ) (j : ℕ) → j < length ys → sum (one_more ys (suc j)) ≡ suc (sum ys)
-unfolding one_more
-sum-one_more [] j h = absurd (omega arith)
-sum-one_more (y ∷ ys) zero h = omega (arith, sum-cons)
-sum-one_more (y ∷ ys) (suc j) h = omega (arith, sum-cons, sum-one_more ys j (omega arith))
-
 -- with the cents ys of the shares xs in hand, n of e are left
 pub record Rounded (d n e : ℕ) (xs ys : List ℕ) : Type 0 where
   pub paired : length xs ≡ length ys
@@ -109,10 +89,15 @@ module _ (d e : ℕ) (xs : List ℕ) (parted : 0 < d) (whole : sum xs ≡ d * e)
   rounded_more n ys r place (inr p) =
       let j = p.0 in
       let is : place ≡ suc j = omega (arith, p.1) in
+      let more = suc (get_or ys j 0) in
+      let there : j < length ys = omega (arith, r.paired, inside xs j (omega (arith, p.2))) in
       rw is (record {
-        paired = r.paired ∙ sym (length-one_more ys j);
-        given = omega (arith, r.given, sum-one_more ys j (omega (arith, r.paired, inside xs j (omega (arith, p.2)))));
-        near = one_more_each (λ i y. Near d (get_or xs i 0) y) ys j r.near (omega (arith, p.2), omega (arith, r.near j));
+        paired = r.paired ∙ sym (length-set ys j more);
+        given = omega (arith, r.given, sum_by-set (λ y. y) ys j more 0 there);
+        near = λ i. ⊎_elim
+            (λ (t : i ≡ j). rw (t, get_or-set_same ys j more 0 there) (omega (arith, p.2), omega (arith, r.near j)))
+            (λ (f : i ≢ j). rw (get_or-set_other ys j i more 0 f) (r.near i))
+            (cases_eq i j);
       })
 
   rounded_all : (n : ℕ) (ys : List ℕ) → Rounded d n e xs ys → Rounded d 0 e xs (give_left n d xs ys)

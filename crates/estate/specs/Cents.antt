@@ -1,5 +1,5 @@
 -- Whole cents from shares in d-ths of a cent. Assumes nothing.
-use Rattle.std.specs.Prelude.{◌≡◌, ℕ, zero, suc, ◌+◌, ◌-◌, ◌*◌, ◌/◌, ◌<◌, ◌≤◌, Bool, List, [], ◌∷◌, map, length, if◌then◌else◌, nat_lt, slice_index, sum}
+use Rattle.std.specs.Prelude.{◌≡◌, ℕ, zero, suc, ◌+◌, ◌-◌, ◌*◌, ◌/◌, ◌<◌, ◌≤◌, Bool, List, [], ◌∷◌, map, length, if◌then◌else◌, nat_lt, slice_index, slice_set, sum}
 
 -- each share rounded down
 abbrev pub downs : ℕ → List ℕ → List ℕ
@@ -14,12 +14,10 @@ lacks_most d (x ∷ xs) (y ∷ ys) i most at =
     let more : Bool = nat_lt most (x - d * y) in
     lacks_most d xs ys (suc i) (if more then x - d * y else most) (if more then suc i else at)
 
--- one cent more for the one at a place counted from 1
-unfoldable pub one_more : List ℕ → ℕ → List ℕ
-one_more [] i = []
-one_more (y ∷ ys) zero = y ∷ ys
-one_more (y ∷ ys) (suc zero) = suc y ∷ ys
-one_more (y ∷ ys) (suc (suc i)) = y ∷ one_more ys (suc i)
+-- one cent more for the one at a place counted from 1; for the place 0, which is nobody's, nothing
+abbrev pub one_more : List ℕ → ℕ → List ℕ
+one_more ys zero = ys
+one_more ys (suc i) = slice_set ys i (suc (slice_index ys i))
 
 -- n cents, one after the other, each to who at that moment lacks most of its share
 unfoldable pub give_left : ℕ → ℕ → List ℕ → List ℕ → List ℕ

@@ -1,5 +1,6 @@
 -- What is true of every division. Each is named by the contract of a function of this crate. Assumes nothing.
-use Rattle.std.specs.Prelude.{◌≡◌, ℕ, zero, suc, ◌+◌, ◌-◌, ◌*◌, ◌≤◌, max, true, List, [], ◌∷◌, length, IsTrue, ◌↔◌, slice_index, sum}
+use Rattle.std.specs.Prelude.{◌≡◌, ℕ, suc, ◌+◌, ◌-◌, ◌*◌, ◌≤◌, max, true, List, [], ◌∷◌, length, IsTrue, ◌↔◌, slice_index, sum}
+use Rattle.std.specs.List.{remove as without}
 use Rattle.estate.specs.Two.{plainly}
 use Rattle.estate.specs.Division.{divides, Agrees}
 use Rattle.estate.specs.Cents.{in_cents, Pays}
@@ -55,13 +56,7 @@ abbrev pub LostAlike : Type 0
 LostAlike =
     (d e : ℕ) (cs xs : List ℕ) → divides d e cs xs ≡ true → divides d (sum cs - e) cs (losses d cs xs) ≡ true
 
--- a row when the one at a place has gone
-unfoldable pub without : List ℕ → ℕ → List ℕ
-without [] i = []
-without (x ∷ xs) zero = xs
-without (x ∷ xs) (suc i) = x ∷ without xs i
-
--- who is paid a whole number of cents and goes changes nothing for the others
+-- who is paid a whole number of cents and goes changes nothing for the others, whose rows are those without its place
 abbrev pub WhoGoes : Type 0
 WhoGoes =
     (d e i x : ℕ) (cs xs : List ℕ) → divides d e cs xs ≡ true → slice_index xs i ≡ d * x → divides d (e - x) (without cs i) (without xs i) ≡ true
