@@ -5,7 +5,7 @@ use Rattle.estate.specs.Calls.{Call, claims, proves, comes, shares, cents, garbl
 use Rattle.estate.specs.Changes.{after}
 use Rattle.estate.specs.Refusals.{not_lent, not_there, checks_alone, first_refusal, place}
 use Rattle.estate.specs.Right.{answered}
-use Rattle.wire.specs.Written.{Stands as IsWritten}
+use Rattle.wire.specs.Written.{IsWritten}
 use Rattle.wire.specs.Answers.{answer_row, Sendable}
 use Rattle.wire.specs.declared.refusals.TurnedAway.{TurnedAway}
 use Rattle.desk.specs.Memory.{layout, limits_of, estate_of, rest_of, Stands, Lent}

@@ -7,7 +7,7 @@ use Rattle.register.specs.declared.row.Moved.{Moved}
 use Rattle.register.specs.declared.rows.Unfit.{Unfit}
 use Rattle.sums.specs.Ledger.{Enters, Amends}
 use Rattle.wire.specs.Answers.{answer_row, Sendable}
-use Rattle.wire.specs.Written.{Stands as IsWritten}
+use Rattle.wire.specs.Written.{IsWritten}
 use Rattle.wire.specs.declared.refusals.TurnedAway.{TurnedAway}
 use Rattle.estate.specs.Answers.{Answer, number}
 use Rattle.estate.specs.Calls.{Call}

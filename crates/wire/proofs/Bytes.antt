@@ -1,7 +1,6 @@
 -- Numbers to bytes and back. Assumes nothing.
 use Rattle.std.proofs.Common.{◌≡◌, ℕ, zero, suc, ◌+◌, ◌-◌, ◌*◌, ◌/◌, ◌%◌, ◌^◌, ◌<◌, ◌≤◌, List, [], ◌∷◌, ◌++◌, length, get_or, take, drop, slice_set, Some, None, sym, refl, ap, subst, arith, length-drop, length-take, append_assoc, length-append, take-append-drop}
 use borrow.Rule.Slice.PartMut.{put_mid}
-use Rattle.std.specs.Int.{w64, from_le_bytes}
 use Rattle.std.specs.List.{flat_map, slice_get}
 use Rattle.std.proofs.lemmas.List.{places, drop-drop, length-take-le, nil_from_length, set_split, take_more, take_all, drop_all, append-nil, take_at, drop_at, flat_map_more}
 use Rattle.std.proofs.lemmas.Option.{slice_get_within, slice_get-get_or, get_or_from_slice_get}
@@ -18,9 +17,6 @@ bytes_take n bs h i = grind (arith, places)
 
 pub bytes_drop : (n : ℕ) (bs : List ℕ) → Bytes bs → Bytes (drop n bs)
 bytes_drop n bs h i = grind (arith, places)
-
-pub number_at-drop : (m i : ℕ) (bs : List ℕ) → number_at (drop m bs) i ≡ number_at bs (m + i)
-number_at-drop m i bs = ap (λ (l : List ℕ). from_le_bytes w64 (take 8 l)) (drop-drop i m bs)
 
 -- a number's bytes are read as that number
 pub number_at-eight : (n : ℕ) (rest : List ℕ) → n < 2 ^ 64 → number_at (eight n ++ rest) 0 ≡ n
@@ -76,10 +72,7 @@ module _ (i : ℕ) (ns before out : List ℕ) (h : out ≡ flat_map eight (take 
   put_more n bytes some eights =
       let lt : i < length ns = slice_get_within ns i n (sym some) in
       let number : get_or ns i 0 ≡ n = get_or_from_slice_get ns i n 0 (sym some) in
-      let width : 8 * i + 8 - 8 * i ≡ 8 = omega arith in
-      let long : length (flat_map eight (take i ns)) ≡ 8 * i = omega (arith, length-flat_map, length-take {A = ℕ}) in
-      let far : drop 8 (drop (8 * i) before) ≡ drop (8 * (i + 1)) before = simp drop-drop (ap (λ (a : ℕ). drop a before) (omega arith)) in
-      rw (h, width, eights, take_more ns i 0 lt, number, flat_map-push) (simp (take_at, drop_at, append_assoc, far))
+      rw (h, eights, take_more ns i 0 lt, number, flat_map-push) (grind (arith, common_steps, length-flat_map))
 
   pub put_all : None ≡ slice_get ns i → length before ≡ 8 * length ns → out ≡ flat_map eight ns
   put_all none full =
