@@ -1,7 +1,7 @@
 -- Shares in words. Assumes nothing.
-use Rattle.std.proofs.Common.{◌≡◌, ℕ, zero, suc, ◌+◌, ◌<◌, ◌≤◌, List, [], ◌∷◌, ◌++◌, map, length, get_or, take, drop, slice_set, ap, sym, ◌∙◌, arith}
-use native.Mathlib.Numerals.{unary_clauses}
+use Rattle.std.proofs.Common.{◌≡◌, ℕ, zero, suc, ◌+◌, ◌<◌, ◌≤◌, List, [], ◌∷◌, ◌++◌, map, length, get_or, take, drop, slice_set, sym, ◌∙◌, arith}
 use Rattle.std.proofs.lemmas.List.{length-map, get_or-map}
+use Rattle.std.proofs.lemmas.Grind.{elements}
 use Rattle.std.proofs.lemmas.Option.{slice_get-map}
 use Rattle.level.specs.declared.closed.Terms.{Terms}
 use Rattle.wire.specs.Bytes.{Fitting}
@@ -12,15 +12,9 @@ fits t [] i = omega arith
 fits t (c ∷ cs) zero = omega arith
 fits t (c ∷ cs) (suc i) = fits t cs i
 
--- the i-th of numbers is written behind those before it
-put_more : (i n : ℕ) (ns before : List ℕ) → i < length ns → length ns ≤ length before → n ≡ get_or ns i 0 → slice_set (take i ns ++ drop i before) i n ≡ take (suc i) ns ++ drop (suc i) before
-put_more i n [] before lt room e = absurd (omega arith)
-put_more i n (m ∷ ms) [] lt room e = absurd (omega arith)
-put_more zero n (m ∷ ms) (b ∷ bs) lt room e = ap (λ x. x ∷ bs) e
-put_more (suc i) n (m ∷ ms) (b ∷ bs) lt room e = ap (λ l. m ∷ l) (put_more i n ms bs (omega arith) (omega arith) e)
-
+-- the number at i is written behind those before it
 pub word_more : (i n : ℕ) (ns before out : List ℕ) → out ≡ take i ns ++ drop i before → length ns ≤ length before → i < length ns → n ≡ get_or ns i 0 → slice_set out i n ≡ take (i + 1) ns ++ drop (i + 1) before
-word_more i n ns before out h room lt e = simp unary_clauses (rw h (put_more i n ns before lt room e))
+word_more i n ns before out h room lt e = rw h (grind (arith, elements))
 
 pub share_at : (i x : ℕ) (t : Terms) (cs : List ℕ) → i < length cs → x ≡ share_word t (get_or cs i 0) → x ≡ get_or (map (share_word t) cs) i 0
 share_at i x t cs lt e = e ∙ sym (get_or-map (share_word t) cs i 0 0 lt)
