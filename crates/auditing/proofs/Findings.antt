@@ -4,12 +4,11 @@ use Rattle.std.proofs.lemmas.Bool.Decides.{nat_tests}
 use Rattle.std.specs.Prelude.{nat_lt}
 use Rattle.std.specs.Result.{result_unwrap_or}
 use Rattle.estate.specs.Answers.{parts}
-use Rattle.estate.specs.Closed.{denominator, division}
-use Rattle.estate.specs.Estates.{Estate, counted, divided, Within}
+use Rattle.estate.specs.Estates.{Estate, counted, Within}
 use Rattle.estate.specs.Limits.{most_served}
-use Rattle.estate.proofs.ClosedForm.{closed_divides}
+use Rattle.estate.proofs.ClosedForm.{own_divide}
 use Rattle.estate.proofs.Limited.{claim_small, parts_small, share_small}
-use Rattle.estate.specs.Right.{says}
+use Rattle.estate.specs.Right.{own_parts, own_shares, says}
 use Rattle.wire.specs.Bytes.{Fitting}
 use Rattle.wire.proofs.Bytes.{fitting_more}
 use Rattle.text.proofs.Back.{numbers_back, shares_back}
@@ -75,29 +74,26 @@ one_finding text f g this that = one_found _ _ _ _ f g (in_text text f this) (in
 
 -- what was printed of an estate within the limits
 module _ (e : Estate) (within : Within e) where
-  abbrev d : ℕ
-  d = denominator (divided e) (counted e)
-
-  abbrev xs : List ℕ
-  xs = division (divided e) (counted e)
-
   claims_fit : Fitting (counted e)
   claims_fit i = omega (arith, claim_small e within i)
 
-  shares_fit : Fitting (d ∷ xs)
+  shares_fit : Fitting (own_parts e ∷ own_shares e)
   shares_fit =
-      fitting_more d xs (omega (arith, parts_small e within)) (λ i. omega (arith, share_small e within i))
+      fitting_more _ _ (omega (arith, parts_small e within)) (λ i. omega (arith, share_small e within i))
 
-  passed : (f : Finding) → Found (Ok (counted e)) false (Ok (d, xs)) None f → f ≡ Right
+  abbrev shares_text : List ℕ
+  shares_text = answer_text (parts (own_parts e) (own_shares e))
+
+  passed : (f : Finding) → Found (Ok (counted e)) false (Ok (own_parts e, own_shares e)) None f → f ≡ Right
   passed f (r, v, is) =
-      is ∙ ap judged (accepts_divisions d (divided e) (counted e) xs r v (closed_divides (divided e) (counted e) (omega arith)).1)
+      is ∙ ap judged (accepts_divisions _ _ _ _ r v (own_divide e))
 
   pub printed_passes : (f : Finding) → length (counted e) ≤ most_served → InText (printed e) f → f ≡ Right
   unfolding says blank_lines
   printed_passes f few found =
-      let (first, rest) = in_lines (spaced (counted e)) (as_line (answer_text (parts d xs))) (one_line-spaced (counted e) claims_fit) in
-      let (second, end) = last_line (answer_text (parts d xs)) (one_line-parts d xs shares_fit) in
-      passed f (rw (first, rest, second, end, numbers_back (counted e) claims_fit, served (counted e) few, shares_back d xs shares_fit) at found)
+      let (first, rest) = in_lines (spaced (counted e)) (as_line shares_text) (one_line-spaced (counted e) claims_fit) in
+      let (second, end) = last_line shares_text (one_line-parts _ _ shares_fit) in
+      passed f (rw (first, rest, second, end, numbers_back (counted e) claims_fit, served (counted e) few, shares_back _ _ shares_fit) at found)
 
 pub desks_pass : DesksPass
 desks_pass e f within few found = printed_passes e within f few (in_text (printed e) f found)

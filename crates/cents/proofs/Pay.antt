@@ -4,7 +4,7 @@ use Rattle.std.proofs.Math.Nat.{mul-mod_right, mul-div_cancel_left}
 use Rattle.std.specs.Result.{IsOkAnd}
 use Rattle.estate.specs.Cents.{in_cents}
 use Rattle.estate.specs.Estates.{divided, counted}
-use Rattle.estate.specs.Right.{may_say}
+use Rattle.estate.specs.Right.{MaySay}
 use Rattle.estate.proofs.Facts.{facts}
 use Rattle.estate.proofs.WholeCents.{cents_rounded, cents_add_up}
 use Rattle.estate.proofs.RightAnswers.{cents_one_answer}
@@ -28,7 +28,7 @@ module _ {L : Type 0} (items : L → List ℕ) where
       rw is (record { come = refl; paired = sym r.paired; sum_is = omega (arith, r.given); near = r.near })
 
 pub cents_pay : CentsPay
-unfolding may_say
+unfolding MaySay
 cents_pay e ks t r f c =
     let p = shares_divide e ks t f in
     let q = facts _ _ _ _ p.divides in

@@ -9,13 +9,12 @@ use Rattle.std.specs.Prelude.{if◌then◌else◌, IfErr}
 use Rattle.estate.specs.Answers.{Answer, refused, number}
 use Rattle.estate.specs.Calls.{Call, claims, proves, comes, shares, cents, garbled}
 use Rattle.estate.specs.Changes.{after}
-use Rattle.estate.specs.Closed.{denominator, division}
 use Rattle.estate.specs.Division.{Agrees}
 use Rattle.estate.specs.Estates.{Estate, new_estate, amount, counted, divided}
 use Rattle.estate.specs.Limits.{Limits, most_there}
 use Rattle.estate.specs.Refusals.{check, first_refusal, turned, place}
-use Rattle.estate.specs.Right.{says, answered}
-use Rattle.estate.proofs.ClosedForm.{closed_divides}
+use Rattle.estate.specs.Right.{own_parts, own_shares, says, answered}
+use Rattle.estate.proofs.ClosedForm.{own_divide}
 use Rattle.estate.proofs.Limited.{shares_agree, parts_small, claim_small, share_small}
 use Rattle.estate.proofs.WholeCents.{cents_add_up}
 use Rattle.wire.specs.Answers.{answer_row, Sendable}
@@ -61,19 +60,10 @@ number_fits l n less = record {
 }
 
 module _ (l : Limits) (e : Estate) (f : Allowed l e) where
-  abbrev d : ℕ
-  d = denominator (divided e) (counted e)
-
-  abbrev xs : List ℕ
-  xs = division (divided e) (counted e)
-
-  divides : Agrees d (divided e) (counted e) xs
+  divides : Agrees (own_parts e) (divided e) (counted e) (own_shares e)
   divides = shares_agree e f.within
 
-  few : d ≤ 2048
-  few = parts_small e f.within
-
-  share_fits : Fitting xs
+  share_fits : Fitting (own_shares e)
   share_fits i = omega (arith, share_small e f.within i)
 
   says_fits : (c : Call) → (turned l e c == 0) ≡ true → Fits l.creditors (says e c)
@@ -81,13 +71,13 @@ module _ (l : Limits) (e : Estate) (f : Allowed l e) where
   says_fits (claims c) t = number_fits _ _ (omega (arith, f.few, f.limit))
   says_fits (proves i c) t = let there : i < length (counted e) = grind (arith, nat_tests) in number_fits _ _ (omega (arith, f.few, f.limit))
   says_fits (comes x) t = let few : amount e + x ≤ most_there = grind (arith, nat_tests) in number_fits _ _ (omega arith)
-  says_fits shares t = record {
-    sendable = record { listed = tt; fitting = fitting_more d (length xs ∷ xs) (omega (arith, few)) (fitting_more (length xs) xs (omega (arith, divides.paired, f.within.few)) share_fits) };
+  says_fits shares t = let xs = own_shares e in record {
+    sendable = record { listed = tt; fitting = fitting_more (own_parts e) (length xs ∷ xs) (omega (arith, parts_small e f.within)) (fitting_more (length xs) xs (omega (arith, divides.paired, f.within.few)) share_fits) };
     room = omega (arith, length-row, divides.paired, f.few);
     answers = refl;
   }
   says_fits cents t =
-      let p = cents_add_up d (divided e) (counted e) xs (closed_divides (divided e) (counted e) (omega arith)).1 in
+      let p = cents_add_up (own_parts e) (divided e) (counted e) (own_shares e) (own_divide e) in
       record {
         sendable = record { listed = tt; fitting = fitting_more _ _ (omega (arith, p.paired, f.within.few)) (λ i. omega (arith, p.below i, claim_small e f.within i)) };
         room = omega (arith, length-row, p.paired, f.few);

@@ -7,11 +7,11 @@ use Rattle.std.specs.Prelude.{if◌then◌else◌, slice_index}
 use Rattle.estate.specs.Answers.{Answer}
 use Rattle.estate.specs.Calls.{Call, claims, proves, comes, shares, cents, garbled}
 use Rattle.estate.specs.Changes.{changed, after, ran}
-use Rattle.estate.specs.Desks.{Memory, Desk, all_right, left_by}
+use Rattle.estate.specs.Desks.{Memory, Desk, all_said, left_by}
 use Rattle.estate.specs.Estates.{Estate, new_estate}
 use Rattle.estate.specs.Limits.{Limits, most_cents}
 use Rattle.estate.specs.Refusals.{turned}
-use Rattle.estate.specs.Right.{right, answered}
+use Rattle.estate.specs.Right.{IsRight, AllRight, answered}
 use Rattle.estate.proofs.RightAnswers.{answered_right}
 use Rattle.wire.specs.declared.refusals.TurnedAway.{TurnedAway}
 use Rattle.wire.specs.Answers.{answer_row}
@@ -115,12 +115,12 @@ module _ (k : Desk) (o : Obeys k) where
         let (n, t, r) = reads l e rest f in
         rw (sym (ap limits_of w ∙ n), sym (ap estate_of w ∙ t), sym (ap rest_of w ∙ r)) (v.memory, v.answer)
 
-    all_served : (e : Estate) (m : Memory) (cs : List Call) → Allowed l e → m.words ≡ layout l e ++ rest → all_right k l m e cs
-    unfolding all_right
+    all_served : (e : Estate) (m : Memory) (cs : List Call) → Allowed l e → m.words ≡ layout l e ++ rest → AllRight l e cs (all_said k m cs)
+    unfolding AllRight all_said
     all_served e m [] f w = tt
     all_served e m (c ∷ cs) f w =
         let g = goes_on e m c f w in
-        (subst (right l e c) (sym g.1) (answered_right l e c), all_served (after l e c) (k.next m c) cs (allowed_after l e c f) g.0)
+        (subst (IsRight l e c) (sym g.1) (answered_right l e c), all_served (after l e c) (k.next m c) cs (allowed_after l e c f) g.0)
 
     left : (e : Estate) (m : Memory) (cs : List Call) → Allowed l e → m.words ≡ layout l e ++ rest → Allowed l (ran l e cs) × ((left_by k m cs).words ≡ layout l (ran l e cs) ++ rest)
     unfolding ran left_by

@@ -3,7 +3,7 @@
 use Rattle.std.specs.Prelude.{◌≡◌, ℕ, ◌≤◌, List, ◌++◌, Ok, Result}
 use Rattle.estate.specs.Calls.{Call}
 use Rattle.estate.specs.Changes.{after}
-use Rattle.estate.specs.Desks.{Memory, Desk, Right, RefusalKeeps}
+use Rattle.estate.specs.Desks.{Memory, Desk, AnswersRight, RefusalKeeps}
 use Rattle.estate.specs.Estates.{Estate, new_estate}
 use Rattle.estate.specs.Limits.{Limits, most_creditors}
 use Rattle.estate.specs.Right.{answered}
@@ -20,7 +20,7 @@ pub record Obeys (k : Desk) : Type 0 where
 
 -- the main promise: each answer is right, whatever calls came before
 abbrev pub DesksRight : Type 0
-DesksRight = (k : Desk) → Obeys k → Right k
+DesksRight = (k : Desk) → Obeys k → AnswersRight k
 
 -- a call that is turned away changes nothing
 abbrev pub RefusalsKeep : Type 0

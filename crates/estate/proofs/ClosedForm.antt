@@ -8,6 +8,8 @@ use Rattle.estate.specs.Level.{Level, fill, scarce, target}
 use Rattle.estate.specs.Closed.{half, share, denominator, division}
 use Rattle.estate.specs.Promises.{losses, ClosedDivides, ThereIsOne}
 use Rattle.estate.specs.Division.{Agrees}
+use Rattle.estate.specs.Estates.{Estate, counted, divided, Shared}
+use Rattle.estate.specs.Right.{own_parts, own_shares}
 use Rattle.estate.proofs.Rows.{get_or-map_zero}
 use Rattle.estate.proofs.Facts.{from_facts}
 use Rattle.estate.proofs.Losses.{losses_agree}
@@ -71,6 +73,10 @@ denominator_few e cs = omega (arith, few_share (target e cs) (sorted cs), length
 
 pub closed_divides : ClosedDivides
 closed_divides e cs h = (denominator_few e cs, from_facts _ e cs _ (closed_agrees e cs h))
+
+-- so the shares that this desk has for an estate divide it
+pub own_divide : (e : Estate) → Shared e (own_parts e) (own_shares e)
+own_divide e = (closed_divides (divided e) (counted e) (omega arith)).1
 
 pub there_is_one : ThereIsOne
 there_is_one e cs h =

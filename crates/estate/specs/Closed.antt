@@ -12,9 +12,12 @@ share true v c = half v c
 share false v c = 2 * v.sharers * c - half v c
 
 -- the parts of a cent: twice the sharers, and 1 where there are no creditors
-abbrev pub denominator : ℕ → List ℕ → ℕ
-denominator e cs = max 1 (2 * (level e cs).sharers)
+abbrev pub parts_at : Level → ℕ
+parts_at v = max 1 (2 * v.sharers)
 
--- the shares of e cents among the claims cs, in these parts
+-- the parts of a cent, and the shares of e cents among the claims cs, in these parts
+abbrev pub denominator : ℕ → List ℕ → ℕ
+denominator e cs = parts_at (level e cs)
+
 abbrev pub division : ℕ → List ℕ → List ℕ
 division e cs = map (share (scarce e cs) (level e cs)) cs

@@ -1,17 +1,18 @@
 -- The terms that are found are those of the closed form. Assumes nothing.
-use Rattle.std.proofs.Common.{◌≡◌, ℕ, ◌*◌, ◌≤◌, max, Bool, List, map, Some, ap, ◌∙◌, mul-le-mul_right, mul-le-mul, arith, sum}
+use Rattle.std.proofs.Common.{◌≡◌, ℕ, ◌*◌, ◌≤◌, List, map, Some, ap, ◌∙◌, mul-le-mul_right, mul-le-mul, arith, sum}
 use Rattle.std.specs.List.Sorted.{IsNonDecreasing}
 use Rattle.std.proofs.lemmas.Bool.Decides.{nat_tests}
 use Rattle.std.proofs.lemmas.List.Sums.{sum-map, sum_by-le}
 use Rattle.estate.specs.Order.{sorted, SameClaims}
 use Rattle.estate.specs.Limits.{most_creditors, most_cents, most_claimed}
 use Rattle.estate.specs.Level.{Level, level, scarce, target}
-use Rattle.estate.specs.Closed.{half, share, denominator, division}
+use Rattle.estate.specs.Closed.{half, share, parts_at}
 use Rattle.estate.specs.Estates.{Estate, amount, counted, divided, Within}
+use Rattle.estate.specs.Right.{own_parts, own_shares}
 use Rattle.estate.proofs.Ordered.{sum-sorted, length-sorted}
 use Rattle.estate.proofs.SameClaims.{only_sorted}
 use Rattle.estate.proofs.Filled.{few_share, some_share, spread_below, filled}
-use Rattle.estate.proofs.ClosedForm.{closed_divides}
+use Rattle.estate.proofs.ClosedForm.{own_divide}
 use Rattle.level.specs.Sides.{gains}
 use Rattle.level.specs.Levels.{level_of}
 use Rattle.level.specs.Terms.{parts_of, share_by, Found}
@@ -40,19 +41,17 @@ module _ (e : Estate) (ks : List ℕ) (t : Terms) (same : SameClaims ks (counted
   at_level : level_of t.level ≡ level (divided e) (counted e)
   at_level = rw (all, order) at f.1.level
 
-  parts : parts_of t ≡ denominator (divided e) (counted e)
-  parts = ap (λ (v : Level). max 1 (2 * v.sharers)) at_level
+  parts : parts_of t ≡ own_parts e
+  parts = ap parts_at at_level
 
-  shares : map (share_by t) (counted e) ≡ division (divided e) (counted e)
-  shares =
-      ap (λ (b : Bool). map (share b (level_of t.level)) (counted e)) side
-      ∙ ap (λ (v : Level). map (share (scarce (divided e) (counted e)) v) (counted e)) at_level
+  shares : map (share_by t) (counted e) ≡ own_shares e
+  shares = λ i. map (share (side i) (at_level i)) (counted e)
 
   right : Right e t
   right = record {
     parts = parts;
     shares = shares;
-    divides = rw (parts, shares) (closed_divides (divided e) (counted e) (omega arith)).1;
+    divides = rw (parts, shares) (own_divide e);
   }
 
   module _ (w : Within e) where

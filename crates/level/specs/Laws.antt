@@ -5,7 +5,8 @@ use Rattle.estate.specs.Order.{SameClaims}
 use Rattle.estate.specs.Limits.{most_creditors, most_cents, most_there, most_claimed}
 use Rattle.estate.specs.Level.{target}
 use Rattle.estate.specs.Estates.{Estate, amount, counted, divided, Shared, Within}
-use Rattle.estate.specs.Closed.{half, denominator, division}
+use Rattle.estate.specs.Closed.{half}
+use Rattle.estate.specs.Right.{own_parts, own_shares}
 use Rattle.level.specs.Levels.{level_of, Fills}
 use Rattle.level.specs.Terms.{parts_of, share_by, Found}
 use Rattle.level.specs.declared.closed.Terms.{Terms}
@@ -24,8 +25,8 @@ LevelFills = (n : ℕ) (ks : List ℕ) (f : Fraction) → n ≤ sum ks → IsNon
 
 -- On these terms the estate's claims have the shares of the closed form, in its parts of a cent, and these shares divide.
 pub record Right (e : Estate) (t : Terms) : Type 0 where
-  pub parts : parts_of t ≡ denominator (divided e) (counted e)
-  pub shares : map (share_by t) (counted e) ≡ division (divided e) (counted e)
+  pub parts : parts_of t ≡ own_parts e
+  pub shares : map (share_by t) (counted e) ≡ own_shares e
   pub divides : Shared e (parts_of t) (map (share_by t) (counted e))
 
 -- The terms that are found are right for the estate whose claims were lent in ascending order.

@@ -1,15 +1,15 @@
 -- The terms of a division. Assumes nothing.
-use Rattle.std.specs.Prelude.{◌≡◌, ℕ, ◌*◌, ◌<◌, ◌≤◌, min, max, List, Some, None, Option, sum}
+use Rattle.std.specs.Prelude.{◌≡◌, ℕ, ◌<◌, ◌≤◌, min, List, Some, None, Option, sum}
 use Rattle.estate.specs.Limits.{most_there}
 use Rattle.estate.specs.Level.{scarce_of_sum, target_of_sum}
-use Rattle.estate.specs.Closed.{share}
+use Rattle.estate.specs.Closed.{share, parts_at}
 use Rattle.level.specs.Sides.{gains}
 use Rattle.level.specs.Levels.{level_of, Fills}
 use Rattle.level.specs.declared.closed.Terms.{Terms}
 
--- the parts of a cent: twice as many as share the level, and 1 where there are no creditors
+-- the parts of a cent on these terms
 abbrev pub parts_of : Terms → ℕ
-parts_of t = max 1 (2 * t.level.denominator)
+parts_of t = parts_at (level_of t.level)
 
 -- the terms on which e cents, of a sum s that is claimed, are divided among claims in ascending order
 pub record Agreed (e s : ℕ) (ks : List ℕ) (t : Terms) : Type 0 where

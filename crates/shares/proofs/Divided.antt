@@ -1,10 +1,10 @@
 -- What is written on the terms that are found divides. Assumes nothing.
-use Rattle.std.proofs.Common.{◌≡◌, ℕ, ◌*◌, ◌<◌, ◌≤◌, List, [], ◌∷◌, map, length, All, get_or, refl, arith}
+use Rattle.std.proofs.Common.{◌≡◌, ℕ, ◌*◌, ◌<◌, ◌≤◌, List, [], ◌∷◌, map, length, All, get_or, refl, ap, arith}
 use Rattle.std.proofs.lemmas.List.{get_or-map}
 use Rattle.std.proofs.lemmas.List.Elements.{All-tail, All-map}
 use Rattle.estate.specs.Limits.{most_claimed}
 use Rattle.estate.specs.Estates.{Estate, divided, counted}
-use Rattle.estate.proofs.Facts.{facts}
+use Rattle.estate.proofs.Limited.{share_small as own_small}
 use Rattle.estate.proofs.ClosedForm.{denominator_few}
 use Rattle.estate.specs.Right.{says}
 use Rattle.level.specs.Terms.{parts_of, share_by}
@@ -25,8 +25,7 @@ module _ (e : Estate) (ks : List ℕ) (t : Terms) (f : TermsFor e ks t) where
   -- nobody has more than it claims, since these shares divide
   share_small : (i d : ℕ) → i < length (counted e) → share_by t (get_or (counted e) i d) ≤ 2 * most_claimed
   share_small i d l =
-      let below = (facts (parts_of t) (divided e) (counted e) (map (share_by t) (counted e)) right.divides).below i in
-      omega (arith, below, get_or-map (share_by t) (counted e) i d 0 l, small.claim (get_or (counted e) i 0) (f.within.each i 0 l))
+      omega (arith, own_small e f.within i, ap (λ xs. get_or xs i 0) right.shares, get_or-map (share_by t) (counted e) i d 0 l)
 
   -- so no word is too small for its share
   no_word_short : (cs : List ℕ) → All (λ c. share_by t c ≤ 2 * most_claimed) cs → shares_on t cs ≡ map (share_by t) cs

@@ -4,12 +4,12 @@ use Rattle.std.proofs.lemmas.List.{append-nil}
 use Rattle.estate.specs.Calls.{Call}
 use Rattle.estate.specs.Changes.{after}
 use Rattle.estate.specs.Estates.{Estate, new_estate}
-use Rattle.estate.specs.Right.{answered}
+use Rattle.estate.specs.Right.{AllRight, answered}
 use Rattle.estate.proofs.RightAnswers.{answered_right}
 use Rattle.wire.specs.Reading.{read, Takes}
 use Rattle.transcript.specs.Cutting.{Holds}
 use Rattle.transcript.specs.Sessions.{served}
-use Rattle.transcript.specs.Transcripts.{answers, line, lines, Answers, AllRight}
+use Rattle.transcript.specs.Transcripts.{answers, line, lines, Answers}
 use Rattle.transcript.specs.Laws.{OneTranscript, EachRight}
 use Rattle.transcript.proofs.Cuts.{held_once, calls_held, unread_held, is_cut}
 
@@ -45,7 +45,7 @@ one_transcript bs t u (cs, held, is) (ks, also, so) =
 
 pub each_right : EachRight
 unfolding AllRight answers
-each_right l e [] = refl
+each_right l e [] = tt
 each_right l e (c ∷ cs) = (answered_right l e c, each_right l (after l e c) cs)
 
 pub ruleset laws = (one_transcript, calls_held, unread_held, is_cut, each_right)

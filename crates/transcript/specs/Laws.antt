@@ -4,10 +4,11 @@ use Rattle.std.specs.List.{flat_map}
 use Rattle.estate.specs.Calls.{Call, garbled}
 use Rattle.estate.specs.Estates.{Estate}
 use Rattle.estate.specs.Limits.{Limits}
+use Rattle.estate.specs.Right.{AllRight}
 use Rattle.wire.specs.Bytes.{Bytes}
 use Rattle.wire.specs.Calls.{Sendable, call_row}
 use Rattle.transcript.specs.Cutting.{Holds, Unread}
-use Rattle.transcript.specs.Transcripts.{answers, IsTranscript, AllRight}
+use Rattle.transcript.specs.Transcripts.{answers, IsTranscript}
 
 -- one text answers a file
 unfoldable pub OneTranscript : Type 0

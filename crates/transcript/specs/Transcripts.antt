@@ -6,7 +6,7 @@ use Rattle.estate.specs.Calls.{Call}
 use Rattle.estate.specs.Changes.{after}
 use Rattle.estate.specs.Estates.{Estate, new_estate}
 use Rattle.estate.specs.Limits.{Limits}
-use Rattle.estate.specs.Right.{right, answered}
+use Rattle.estate.specs.Right.{answered}
 use Rattle.text.specs.Printed.{as_line, answer_text}
 use Rattle.transcript.specs.Cutting.{Holds}
 use Rattle.transcript.specs.Sessions.{served}
@@ -30,9 +30,3 @@ Answers e bs text = (cs : List Call) × Holds bs cs × (text ≡ lines (answers 
 -- and for a new one
 abbrev pub IsTranscript : List ℕ → List ℕ → Type 0
 IsTranscript bs text = Answers new_estate bs text
-
--- each of these answers is right
-unfoldable pub AllRight : Limits → Estate → List Call → List Answer → Type 0
-AllRight l e [] said = said ≡ []
-AllRight l e (c ∷ cs) [] = ⊥
-AllRight l e (c ∷ cs) (a ∷ said) = right l e c a × AllRight l (after l e c) cs said
