@@ -5,6 +5,7 @@ use Rattle.estate.specs.Limits.{Limits}
 use Rattle.estate.specs.Estates.{Estate, with_there, with_claimed}
 use Rattle.estate.specs.Refusals.{turned}
 
+-- the estate after a call that is not turned away
 abbrev pub changed : Estate → Call → Estate
 changed e (claims c) = with_claimed e (e.claimed ++ (c ∷ []))
 changed e (proves i c) = with_claimed e (slice_set e.claimed i c)

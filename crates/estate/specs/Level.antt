@@ -24,11 +24,13 @@ scarce_of_sum e s = nat_le (2 * e) s
 abbrev pub target_of_sum : ℕ → ℕ → ℕ
 target_of_sum e s = if scarce_of_sum e s then 2 * e else 2 * (s - e)
 
+-- the same, told from the claims
 abbrev pub scarce : ℕ → List ℕ → Bool
 scarce e cs = scarce_of_sum e (sum cs)
 
 abbrev pub target : ℕ → List ℕ → ℕ
 target e cs = target_of_sum e (sum cs)
 
+-- the level at which e cents are divided among the claims cs
 abbrev pub level : ℕ → List ℕ → Level
 level e cs = fill (target e cs) (sorted cs)

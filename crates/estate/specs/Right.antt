@@ -48,6 +48,7 @@ says e shares = parts (own_parts e) (own_shares e)
 says e cents = amounts (in_cents (own_parts e) (divided e) (own_shares e))
 says e (garbled n) = refused unreadable n
 
+-- what this desk answers to a call: that, or the refusal of a call that is turned away
 abbrev pub answered : Limits → Estate → Call → Answer
 answered l e c = if turned l e c == 0 then says e c else refused (turned l e c) (place c (turned l e c))
 
