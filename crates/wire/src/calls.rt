@@ -34,7 +34,8 @@ impl Call {
     // Writes the call at the start of lent bytes, and says how many it takes.
     pub fn encode(self, out: &mut [u8]) -> Result<usize, Refusal>
         ensures written { Written (call_row (meaning self)) out.old out.new result }
-        ensures sendable { Sendable (meaning self) × (narrow (meaning self) ≡ meaning self) }
+        ensures sendable { Sendable (meaning self) }
+        ensures narrow { narrow (meaning self) ≡ meaning self }
     {
         match self {
             Call::Claim(cents) => put(out, CallKind::Claim as u8, &[cents]),
