@@ -11,7 +11,7 @@ use Rattle.estate.specs.Calls.{Call, claims, proves, comes, shares, cents, garbl
 use Rattle.estate.specs.Changes.{changed}
 use Rattle.estate.specs.Limits.{most_cents, most_there}
 use Rattle.estate.specs.Right.{says}
-use Rattle.register.specs.Rows.{Unchanged}
+use Rattle.register.specs.Rows.{IsUnfit}
 use Rattle.register.specs.declared.rows.Unfit.{Unfit}
 use Rattle.register.specs.declared.rows.Unfit.TheVariants as unfit
 use Rattle.sums.specs.Ledger.{room, register, Enters, Amends}
@@ -156,7 +156,7 @@ module _ (m : List ℕ) (limit count k : ℕ) (is_limit : limit ≡ slice_index 
         put_bounded part long,
       )
 
-  missing : (i : ℕ) → Stands m → (why : Unfit) → Unchanged count i (register ledger_words) why → count ≤ i
+  missing : (i : ℕ) → Stands m → (why : Unfit) → IsUnfit count i (register ledger_words) why → count ≤ i
   missing i s unfit.NotThere u = omega (arith, u, part_room, halves ledger_words, headed.few, is_limit, is_count)
   missing i s unfit.OutOfOrder u =
       absurd (rows_ordered _ (estate_of m) s.allowed.few i (rw (part_is s, sym count_is) at u))

@@ -6,7 +6,7 @@ use Rattle.std.proofs.lemmas.List.{places, replicate-append-replicate, length-re
 use Rattle.std.proofs.lemmas.Grind.{common_steps}
 use Rattle.estate.specs.Order.{sorted}
 use Rattle.estate.specs.Estates.{Estate, new_estate, with_there, with_claimed}
-use Rattle.register.specs.Rows.{Unchanged}
+use Rattle.register.specs.Rows.{IsUnfit}
 use Rattle.register.specs.declared.rows.Unfit.TheVariants.{OutOfOrder}
 use Rattle.sums.specs.Ledger.{room, register, Entered, Amended}
 use Rattle.sums.specs.Laws.{Starts, Adds, Changes, NeverOutOfOrder, Reads}
@@ -104,7 +104,7 @@ module _ (n : ℕ) (e : Estate) (few : length e.claimed ≤ n) where
   unfolding rows Changes
   rows_changed i c from to new a = changes i c from to (replicate (3 * n) 0) e.claimed new enough a
 
-  pub rows_ordered : (i : ℕ) → Unchanged (length e.claimed) i (register (rows (limits_for n) e)) OutOfOrder → ⊥
+  pub rows_ordered : (i : ℕ) → IsUnfit (length e.claimed) i (register (rows (limits_for n) e)) OutOfOrder → ⊥
   unfolding rows NeverOutOfOrder
   rows_ordered i u = ordered i (replicate (3 * n) 0) e.claimed enough u
 

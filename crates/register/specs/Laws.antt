@@ -5,7 +5,7 @@ use Rattle.std.specs.List.{insert as inserted, remove as removed}
 use Rattle.std.specs.List.Sorted.{IsNonDecreasing}
 use Rattle.estate.specs.Order.{insert, remove, sorted, SameClaims}
 use Rattle.register.specs.Row.{part, Fits, Missing, Insertion, Removal, Replacement}
-use Rattle.register.specs.Rows.{middle, kept, Addition, Change, Unchanged}
+use Rattle.register.specs.Rows.{middle, kept, Addition, Change, IsUnfit}
 use Rattle.register.specs.declared.rows.Unfit.TheVariants.{OutOfOrder}
 
 -- Whatever memory holds, the claim is in the part, at its place, and nothing outside the part is changed. Of a part in
@@ -59,4 +59,4 @@ Changes =
 -- No register is out of order.
 abbrev pub NeverOutOfOrder : Type 0
 NeverOutOfOrder =
-    (i : ℕ) (ws cs : List ℕ) → length cs ≤ middle ws → Unchanged (length cs) i (kept ws cs) OutOfOrder → ⊥
+    (i : ℕ) (ws cs : List ℕ) → length cs ≤ middle ws → IsUnfit (length cs) i (kept ws cs) OutOfOrder → ⊥

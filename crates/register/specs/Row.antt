@@ -104,12 +104,12 @@ pub record InsertedInto (c : ℕ) (old new : Row) (r : Option ℕ) : Type 0 wher
   pub row : SameRow old new (grown old.count r)
   pub inserted : Inserted old.start old.count c old.words.now new.words.now r
 
--- What removing does.
+-- What removing leaves of it, and answers.
 pub record RemovedFrom (c : ℕ) (old new : Row) (r : Option ℕ) : Type 0 where
   pub row : SameRow old new (shrunk old.count r)
   pub removed : Removed old.start old.count c old.words.now new.words.now r
 
--- What replacing does.
+-- What replacing leaves of it, and answers.
 pub record ReplacedIn (gone c : ℕ) (old new : Row) (r : Option Moved) : Type 0 where
   pub row : SameRow old new old.count
   pub replaced : Replaced old.start old.count gone c old.words.now new.words.now r

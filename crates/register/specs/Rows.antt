@@ -28,10 +28,10 @@ pub record Change (n i c from to : ℕ) (ws new : List ℕ) : Type 0 where
   pub there : i < n
   pub replaced : Replacement (middle ws) n (slice_index ws i) c from to (slice_set ws i c) new
 
--- why nothing is changed
-abbrev pub Unchanged : ℕ → ℕ → List ℕ → Unfit → Type 0
-Unchanged n i ws NotThere = (middle ws < n) ⊎ (n ≤ i)
-Unchanged n i ws OutOfOrder =
+-- this is why nothing is changed
+abbrev pub IsUnfit : ℕ → ℕ → List ℕ → Unfit → Type 0
+IsUnfit n i ws NotThere = (middle ws < n) ⊎ (n ≤ i)
+IsUnfit n i ws OutOfOrder =
     (n ≤ middle ws) × (i < n) × Missing (middle ws) (middle ws + n) (slice_index ws i) ws
 
 -- what is printed of it
@@ -42,15 +42,15 @@ unfit_text OutOfOrder = codes "the claims are not in order"
 -- what changing leaves and answers
 abbrev pub Changed : ℕ → ℕ → ℕ → List ℕ → List ℕ → Result Moved Unfit → Type 0
 Changed n i c ws new (Ok m) = Change n i c m.from m.to ws new
-Changed n i c ws new (Err why) = Unchanged n i ws why × (new ≡ ws)
+Changed n i c ws new (Err why) = IsUnfit n i ws why × (new ≡ ws)
 
--- One more claim was to be added to a register. Its words are those that were lent.
+-- What adding leaves of a register, and answers. Its words are those that were lent.
 pub record AddedTo (c : ℕ) (old new : Register) (r : Option ℕ) : Type 0 where
   pub lent : new.rows.ghost_name ≡ old.rows.ghost_name
   pub count : new.count ≡ grown old.count r
   pub added : Added old.count c old.rows.now new.rows.now r
 
--- One was to be changed.
+-- What changing leaves of it, and answers.
 pub record ChangedIn (i c : ℕ) (old new : Register) (r : Result Moved Unfit) : Type 0 where
   pub lent : new.rows.ghost_name ≡ old.rows.ghost_name
   pub count : new.count ≡ old.count
@@ -60,10 +60,6 @@ pub record ChangedIn (i c : ℕ) (old new : Register) (r : Result Moved Unfit) :
 abbrev pub over : List ℕ → List ℕ → List ℕ
 over cs row = cs ++ drop (length cs) row
 
--- a list at the start of either row
-abbrev pub laid : List ℕ → List ℕ → List ℕ → List ℕ
-laid ws cs ks = over cs (take (middle ws) ws) ++ over ks (drop (middle ws) ws)
-
 -- Memory that held ws, with a register of these claims in it: as they came, and in order. Every other word is as it was.
 abbrev pub kept : List ℕ → List ℕ → List ℕ
-kept ws cs = laid ws cs (sorted cs)
+kept ws cs = over cs (take (middle ws) ws) ++ over (sorted cs) (drop (middle ws) ws)

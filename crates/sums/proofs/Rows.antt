@@ -2,7 +2,7 @@
 use Rattle.std.proofs.Common.{◌≡◌, ℕ, ◌+◌, ◌-◌, ◌*◌, ◌≤◌, List, ◌++◌, length, take, drop, min, max, Some, None, Ok, Err, Result, refl, sym, ap, ◌∙◌, arith}
 use Rattle.std.specs.Prelude.{IsErrAnd}
 use Rattle.std.proofs.lemmas.List.{take_at, drop_at}
-use Rattle.register.specs.Rows.{middle, Addition, Change, Unchanged}
+use Rattle.register.specs.Rows.{middle, Addition, Change, IsUnfit}
 use Rattle.register.specs.declared.row.Moved.{Moved}
 use Rattle.register.specs.declared.rows.Unfit.{Unfit}
 use Rattle.sums.specs.Renewing.{Renewed}
@@ -30,7 +30,7 @@ module _ (ws two row : List ℕ) (rows : ws ≡ two ++ row) (long : length two �
   enters_some n c at front sums a r =
       record { front = front; added = rw first_two a; resummed = resummed (n + 1) _ _ _ front sums (omega arith) r }
 
-  pub amends_none : (n i c : ℕ) (front : List ℕ) (r : Result Moved Unfit) → IsErrAnd r (λ why. Unchanged n i two why) → front ≡ two → Amends n i c ws (front ++ row) r
+  pub amends_none : (n i c : ℕ) (front : List ℕ) (r : Result Moved Unfit) → IsErrAnd r (λ why. IsUnfit n i two why) → front ≡ two → Amends n i c ws (front ++ row) r
   unfolding Amends
   amends_none n i c front (Ok m) u same = absurd u
   amends_none n i c front (Err why) u same = (rw first_two u, rw same (sym rows))

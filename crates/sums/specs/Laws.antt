@@ -3,7 +3,7 @@
 use Rattle.std.specs.Prelude.{◌≡◌, ℕ, ◌*◌, ◌≤◌, List, [], ◌∷◌, ◌++◌, length, slice_set}
 use Rattle.estate.specs.Order.{sorted}
 use Rattle.register.specs.Row.{part}
-use Rattle.register.specs.Rows.{Unchanged}
+use Rattle.register.specs.Rows.{IsUnfit}
 use Rattle.register.specs.declared.rows.Unfit.TheVariants.{OutOfOrder}
 use Rattle.sums.specs.Ledger.{room, register, ledger, Entered, Amended}
 use Rattle.sums.specs.Trees.{IsTree}
@@ -26,7 +26,7 @@ Changes =
 -- No ledger is out of order.
 unfoldable pub NeverOutOfOrder : Type 0
 NeverOutOfOrder =
-    (i : ℕ) (ws cs : List ℕ) → length cs ≤ room ws → Unchanged (length cs) i (register (ledger ws cs)) OutOfOrder → ⊥
+    (i : ℕ) (ws cs : List ℕ) → length cs ≤ room ws → IsUnfit (length cs) i (register (ledger ws cs)) OutOfOrder → ⊥
 
 -- What is read of a ledger is a tree over its claims in order.
 unfoldable pub Reads : Type 0

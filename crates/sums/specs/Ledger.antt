@@ -3,7 +3,7 @@
 use Rattle.std.specs.Prelude.{◌≡◌, ℕ, ◌+◌, ◌-◌, ◌*◌, ◌/◌, ◌≤◌, min, max, List, ◌++◌, length, take, drop, Some, None, Ok, Err, Option, Result}
 use Rattle.estate.specs.Order.{sorted}
 use Rattle.register.specs.Row.{part}
-use Rattle.register.specs.Rows.{kept, over, Addition, Change, Unchanged}
+use Rattle.register.specs.Rows.{kept, over, Addition, Change, IsUnfit}
 use Rattle.register.specs.declared.row.Moved.{Moved}
 use Rattle.register.specs.declared.rows.Unfit.{Unfit}
 use Rattle.sums.specs.Nodes.{sums_of}
@@ -48,4 +48,4 @@ pub record Amended (n i c from to : ℕ) (ws new : List ℕ) : Type 0 where
 -- what changing leaves and answers
 unfoldable pub Amends : ℕ → ℕ → ℕ → List ℕ → List ℕ → Result Moved Unfit → Type 0
 Amends n i c ws new (Ok m) = Amended n i c m.from m.to ws new
-Amends n i c ws new (Err why) = Unchanged n i (register ws) why × (new ≡ ws)
+Amends n i c ws new (Err why) = IsUnfit n i (register ws) why × (new ≡ ws)
