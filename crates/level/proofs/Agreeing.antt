@@ -16,7 +16,7 @@ use Rattle.estate.proofs.ClosedForm.{own_divide}
 use Rattle.level.specs.Sides.{gains}
 use Rattle.level.specs.Levels.{level_of}
 use Rattle.level.specs.Terms.{parts_of, share_by, Found}
-use Rattle.level.specs.Laws.{LevelFills, Right, TermsRight, Small, TermsSmall}
+use Rattle.level.specs.Laws.{LevelFills, AreRight, TermsRight, Small, TermsSmall}
 use Rattle.level.specs.declared.closed.Terms.{Terms}
 
 pub level_fills : LevelFills
@@ -47,7 +47,7 @@ module _ (e : Estate) (ks : List ℕ) (t : Terms) (same : SameClaims ks (counted
   shares : map (share_by t) (counted e) ≡ own_shares e
   shares = λ i. map (share (side i) (at_level i)) (counted e)
 
-  right : Right e t
+  right : AreRight e t
   right = record {
     parts = parts;
     shares = shares;

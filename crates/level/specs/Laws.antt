@@ -19,12 +19,12 @@ pub record Levelled (n : ℕ) (ks : List ℕ) (f : Fraction) : Type 0 where
   pub few : f.denominator ≤ length ks
   pub some : 0 < length ks → 0 < f.denominator
 
--- So it is with the level of whatever they have room for.
+-- So it is with the level that fills in no more than all claims come to.
 abbrev pub LevelFills : Type 0
 LevelFills = (n : ℕ) (ks : List ℕ) (f : Fraction) → n ≤ sum ks → IsNonDecreasing ks → Fills ks n f → Levelled n ks f
 
 -- On these terms the estate's claims have the shares of the closed form, in its parts of a cent, and these shares divide.
-pub record Right (e : Estate) (t : Terms) : Type 0 where
+pub record AreRight (e : Estate) (t : Terms) : Type 0 where
   pub parts : parts_of t ≡ own_parts e
   pub shares : map (share_by t) (counted e) ≡ own_shares e
   pub divides : Shared e (parts_of t) (map (share_by t) (counted e))
@@ -32,7 +32,7 @@ pub record Right (e : Estate) (t : Terms) : Type 0 where
 -- The terms that are found are right for the estate whose claims were lent in ascending order.
 abbrev pub TermsRight : Type 0
 TermsRight =
-    (e : Estate) (ks : List ℕ) (t : Terms) → SameClaims ks (counted e) → IsNonDecreasing ks → Found (amount e) ks (Some t) → Right e t
+    (e : Estate) (ks : List ℕ) (t : Terms) → SameClaims ks (counted e) → IsNonDecreasing ks → Found (amount e) ks (Some t) → AreRight e t
 
 -- How large the numbers on the way to these terms are, and a claim in their parts of a cent: none passes 2 ^ 63.
 pub record Small (e : Estate) (t : Terms) : Type 0 where

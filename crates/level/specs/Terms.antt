@@ -12,14 +12,14 @@ abbrev pub parts_of : Terms → ℕ
 parts_of t = parts_at (level_of t.level)
 
 -- the terms on which e cents, of a sum s that is claimed, are divided among claims in ascending order
-pub record Agreed (e s : ℕ) (ks : List ℕ) (t : Terms) : Type 0 where
+pub record AreTerms (e s : ℕ) (ks : List ℕ) (t : Terms) : Type 0 where
   pub side : gains t.side ≡ scarce_of_sum e s
   pub level : Fills ks (target_of_sum e s) t.level
 
 -- what is found: of what is there, no more is divided than is claimed
 abbrev pub Found : ℕ → List ℕ → Option Terms → Type 0
 Found there ks None = most_there < there
-Found there ks (Some t) = (there ≤ most_there) × Agreed (min there (sum ks)) (sum ks) ks t
+Found there ks (Some t) = (there ≤ most_there) × AreTerms (min there (sum ks)) (sum ks) ks t
 
 -- what a claim of c gets on these terms, in these parts
 abbrev pub share_by : Terms → ℕ → ℕ

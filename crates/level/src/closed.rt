@@ -2,7 +2,7 @@
 ghost use Rattle.std.specs.Prelude.{◌≡◌};
 ghost use Rattle.level.specs.Laws.{LevelFills, TermsRight, TermsSmall};
 ghost use Rattle.level.specs.Sides.{divided_of};
-ghost use Rattle.level.specs.Terms.{parts_of, Agreed, Found};
+ghost use Rattle.level.specs.Terms.{parts_of, AreTerms, Found};
 ghost use Rattle.level.specs.Words.{held};
 
 use crate::facts::{Estate, Side, total};
@@ -29,7 +29,7 @@ impl Terms {
 impl Estate {
     // The terms on which it is divided, among claims in ascending order.
     fn terms(self, claims: &[u64]) -> Terms
-        ensures { Agreed (divided_of self) self.claimed claims.now result }
+        ensures { AreTerms (divided_of self) self.claimed claims.now result }
     {
         Terms {
             side: self.side(),

@@ -2,7 +2,7 @@
 ghost use Rattle.std.specs.Prelude.{◌≡◌, ◌≢◌, ◌≤◌, ◌<◌, ◌+◌, ◌*◌, ◌^◌, IfSome, IfNone, length, sum};
 ghost use Rattle.level.specs.Levels.{Fills};
 ghost use Rattle.level.specs.Sides.{divided_of};
-ghost use Rattle.level.specs.Terms.{Agreed, Found};
+ghost use Rattle.level.specs.Terms.{AreTerms, Found};
 ghost use Rattle.level.specs.Words.{held};
 ghost use Rattle.sums.specs.Descending.{total_of};
 ghost use Rattle.sums.specs.Nodes.{sums_of};
@@ -58,8 +58,8 @@ impl<'a> Tree<'a> {
     // The terms on which an estate is divided among the claims.
     fn terms_on(&self, estate: Estate) -> Terms
         ensures leads { Leads (divided_of estate) estate.claimed self.now result }
-        ensures agreed { IsTree self.now
-            → Agreed (divided_of estate) estate.claimed self.now.claims.now result }
+        ensures are_terms { IsTree self.now
+            → AreTerms (divided_of estate) estate.claimed self.now.claims.now result }
     {
         Terms {
             side: estate.side(),
