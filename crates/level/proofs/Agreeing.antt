@@ -20,6 +20,7 @@ use Rattle.level.specs.Laws.{LevelFills, AreRight, TermsRight, Small, TermsSmall
 use Rattle.level.specs.declared.closed.Terms.{Terms}
 
 pub level_fills : LevelFills
+unfolding LevelFills
 level_fills n ks f h rise is =
     let sharers = ap (λ (v : Level). v.sharers) is in
     record {
@@ -89,7 +90,12 @@ module _ (e : Estate) (ks : List ℕ) (t : Terms) (same : SameClaims ks (counted
     }
 
 pub terms_right : TermsRight
+unfolding TermsRight
 terms_right e ks t same rise f = right e ks t same rise f
 
 pub terms_small : TermsSmall
+unfolding TermsSmall
 terms_small e ks t w same rise f = small e ks t same rise f w
+
+-- the theorems that the contract of `terms_of` carries
+pub ruleset terms_of = (level_fills, terms_right, terms_small)

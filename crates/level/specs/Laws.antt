@@ -20,7 +20,7 @@ pub record Levelled (n : ℕ) (ks : List ℕ) (f : Fraction) : Type 0 where
   pub some : 0 < length ks → 0 < f.denominator
 
 -- So it is with the level that fills in no more than all claims come to.
-abbrev pub LevelFills : Type 0
+unfoldable pub LevelFills : Type 0
 LevelFills = (n : ℕ) (ks : List ℕ) (f : Fraction) → n ≤ sum ks → IsNonDecreasing ks → Fills ks n f → Levelled n ks f
 
 -- On these terms the estate's claims have the shares of the closed form, in its parts of a cent, and these shares divide.
@@ -30,7 +30,7 @@ pub record AreRight (e : Estate) (t : Terms) : Type 0 where
   pub divides : Shared e (parts_of t) (map (share_by t) (counted e))
 
 -- The terms that are found are right for the estate whose claims were lent in ascending order.
-abbrev pub TermsRight : Type 0
+unfoldable pub TermsRight : Type 0
 TermsRight =
     (e : Estate) (ks : List ℕ) (t : Terms) → SameClaims ks (counted e) → IsNonDecreasing ks → Found (amount e) ks (Some t) → AreRight e t
 
@@ -46,6 +46,6 @@ pub record Small (e : Estate) (t : Terms) : Type 0 where
   pub word : (2 * most_there < 2 ^ 63) × (2 * most_claimed < 2 ^ 63)
 
 -- So it is with every estate within the limits.
-abbrev pub TermsSmall : Type 0
+unfoldable pub TermsSmall : Type 0
 TermsSmall =
     (e : Estate) (ks : List ℕ) (t : Terms) → Within e → SameClaims ks (counted e) → IsNonDecreasing ks → Found (amount e) ks (Some t) → Small e t

@@ -39,6 +39,7 @@ impl Estate {
 }
 
 // The terms on which what is there is divided among claims in ascending order; none where more is there than may be.
+#[tactic(auto, using(crate::proofs::Agreeing::terms_of))]
 pub fn terms_of(there: u64, claims: &[u64]) -> Option<Terms>
     ensures value { Found there claims.now result }
     ensures level_fills { LevelFills }

@@ -8,7 +8,7 @@ use Rattle.estate.proofs.Limited.{share_small as own_small}
 use Rattle.estate.proofs.ClosedForm.{denominator_few}
 use Rattle.estate.specs.Right.{says}
 use Rattle.level.specs.Terms.{parts_of, share_by}
-use Rattle.level.specs.Laws.{AreRight, Small}
+use Rattle.level.specs.Laws.{AreRight, TermsRight, Small, TermsSmall}
 use Rattle.level.specs.declared.closed.Terms.{Terms}
 use Rattle.level.proofs.Agreeing.{terms_right, terms_small}
 use Rattle.shares.proofs.EachTwo.{accepts_divisions}
@@ -17,9 +17,11 @@ use Rattle.shares.specs.Laws.{TermsFor, Divided, SharesDivide, SharesFit, Shares
 
 module _ (e : Estate) (ks : List ℕ) (t : Terms) (f : TermsFor e ks t) where
   right : AreRight e t
+  unfolding TermsRight
   right = terms_right e ks t f.same f.rising f.found
 
   small : Small e t
+  unfolding TermsSmall
   small = terms_small e ks t f.within f.same f.rising f.found
 
   -- nobody has more than it claims, since these shares divide
