@@ -4,7 +4,7 @@ use Rattle.std.proofs.lemmas.Bool.{and_parts, eqb-true}
 use Rattle.std.proofs.lemmas.List.Elements.{All-weaker}
 use Rattle.std.proofs.lemmas.List.Sums.{AllPass-from_list_all}
 use Rattle.std.proofs.lemmas.Slice.Eq.{bytes_eq-Decides}
-use Rattle.estate.specs.Pairs.{with_all, pairwise, none_above}
+use Rattle.estate.specs.Pairs.{none_above, pairwise}
 use Rattle.estate.specs.Division.{divides}
 use Rattle.estate.specs.Cents.{lacks_most, give_left, in_cents}
 use Rattle.estate.specs.Order.{insert, sorted}
@@ -42,5 +42,5 @@ module _ (x : Example) where
       }
 
 pub examples_hold : All Worked table
-unfolding with_all pairwise none_above lacks_most give_left insert sorted fill
+unfolding none_above pairwise lacks_most give_left insert sorted fill
 examples_hold = All-weaker (λ x. tests x ≡ true) Worked worked table (AllPass-from_list_all tests table refl)

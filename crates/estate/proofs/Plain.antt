@@ -3,7 +3,7 @@ use Rattle.std.proofs.Common.{◌≡◌, ℕ, ◌-◌, ◌*◌, List, [], ◌∷
 use native.Mathlib.Nat.{mul-sub}
 use Rattle.std.proofs.lemmas.Bool.Decides.{nat_tests}
 use Rattle.estate.specs.Two.{plainly}
-use Rattle.estate.specs.Pairs.{with_all, pairwise, none_above}
+use Rattle.estate.specs.Pairs.{none_above, pairwise}
 use Rattle.estate.specs.Division.{Agrees}
 use Rattle.estate.specs.Promises.{PlainDivides, OnlyPlain}
 use Rattle.estate.proofs.Facts.{facts}
@@ -12,7 +12,7 @@ pub plainly_finer : (d s c k : ℕ) → d * plainly s c k ≡ plainly (d * s) (d
 plainly_finer d s c k = omega (arith, mul-sub d s c, mul-sub d s k, mul-sub d s (s - c), mul-sub d (s - (s - c)) (s - k))
 
 pub plain_divides : PlainDivides
-unfolding with_all pairwise none_above
+unfolding none_above pairwise
 plain_divides e c k h = grind (arith, nat_tests)
 
 two_plainly : (d e c k : ℕ) (xs : List ℕ) → Agrees d e (c ∷ k ∷ []) xs → (2 * get_or xs 0 0 ≡ d * plainly e c k) × (2 * get_or xs 1 0 ≡ d * plainly e k c)

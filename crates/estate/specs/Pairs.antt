@@ -1,22 +1,20 @@
 -- Creditors two by two: claims in whole cents beside shares in d-ths of a cent. Assumes nothing.
-use Rattle.std.specs.Prelude.{ℕ, ◌+◌, ◌*◌, Bool, true, false, ◌&&◌, List, [], ◌∷◌, nat_le}
+use Rattle.std.specs.Prelude.{ℕ, ◌+◌, ◌*◌, Bool, List, length, nat_le, slice_index}
+use Rattle.std.specs.List.{list_all, range_with_len}
 use Rattle.estate.specs.Two.{as_two}
 
--- who claims c and has a divides with each of the others, as two do, what both have
-unfoldable pub with_all : ℕ → ℕ → ℕ → List ℕ → List ℕ → Bool
-with_all d a c [] xs = true
-with_all d a c (k ∷ ks) [] = false
-with_all d a c (k ∷ ks) (x ∷ xs) = as_two (a + x) (d * c) (d * k) a && with_all d a c ks xs
-
--- each two divide as two do
-unfoldable pub pairwise : ℕ → List ℕ → List ℕ → Bool
-pairwise d [] [] = true
-pairwise d [] (x ∷ xs) = false
-pairwise d (c ∷ cs) [] = false
-pairwise d (c ∷ cs) (x ∷ xs) = with_all d x c cs xs && pairwise d cs xs
+-- the places of all claims
+abbrev pub all_places : List ℕ → List ℕ
+all_places cs = range_with_len 0 (length cs)
 
 -- nobody has more than it claims
 unfoldable pub none_above : ℕ → List ℕ → List ℕ → Bool
-none_above d [] xs = true
-none_above d (c ∷ cs) [] = true
-none_above d (c ∷ cs) (x ∷ xs) = nat_le x (d * c) && none_above d cs xs
+none_above d cs xs = list_all (λ i. nat_le (slice_index xs i) (d * slice_index cs i)) (all_places cs)
+
+-- the two at these places divide as two do what they have together
+abbrev pub as_two_at : ℕ → List ℕ → List ℕ → ℕ → ℕ → Bool
+as_two_at d cs xs i j = as_two (slice_index xs i + slice_index xs j) (d * slice_index cs i) (d * slice_index cs j) (slice_index xs i)
+
+-- so do each two, either of them first; beside itself anybody does
+unfoldable pub pairwise : ℕ → List ℕ → List ℕ → Bool
+pairwise d cs xs = list_all (λ i. list_all (as_two_at d cs xs i) (all_places cs)) (all_places cs)
