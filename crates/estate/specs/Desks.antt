@@ -1,5 +1,5 @@
--- A desk, and what is promised of it: two statements, which the contract of `call` in `desk` names of every desk that does as
--- the contracts say. Assumes nothing.
+-- A desk, and what is promised of it: two statements, which the contract of `call` in `desk` names of every desk that does
+-- as the contracts say. Assumes nothing.
 use Rattle.std.specs.Prelude.{◌≡◌, ℕ, ◌<◌, ◌≤◌, List, [], ◌∷◌}
 use Rattle.estate.specs.Calls.{Call}
 use Rattle.estate.specs.Answers.{Answer}

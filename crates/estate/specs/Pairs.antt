@@ -13,7 +13,9 @@ none_above d cs xs = list_all (λ i. nat_le (slice_index xs i) (d * slice_index 
 
 -- the two at these places divide as two do what they have together
 abbrev pub as_two_at : ℕ → List ℕ → List ℕ → ℕ → ℕ → Bool
-as_two_at d cs xs i j = as_two (slice_index xs i + slice_index xs j) (d * slice_index cs i) (d * slice_index cs j) (slice_index xs i)
+as_two_at d cs xs i j =
+    let a : ℕ = slice_index xs i in
+    as_two (a + slice_index xs j) (d * slice_index cs i) (d * slice_index cs j) a
 
 -- so do each two, either of them first; beside itself anybody does
 unfoldable pub pairwise : ℕ → List ℕ → List ℕ → Bool

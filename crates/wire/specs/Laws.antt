@@ -1,4 +1,4 @@
--- What is true of calls and answers as rows of bytes. Each is a statement that the contract of a function names. Assumes nothing.
+-- What is true of calls and answers as rows of bytes. The contract of a function names each. Assumes nothing.
 use Rattle.std.specs.Prelude.{◌≡◌, ◌^◌, ◌<◌, length, Some, Option}
 use Rattle.estate.specs.Calls.{Call}
 use Rattle.estate.specs.Answers.{Answer}
@@ -23,7 +23,8 @@ abbrev pub AnswerBack : Type 0
 AnswerBack =
     (a : Answer) (o : Option Answer) → answers.Sendable a → answers.Received (answers.answer_row a) o → o ≡ Some a
 
--- no estate of fewer than 2^32 claims shows whether a place was narrowed to 32 bits: neither place has a claim, or they are one
+-- No estate of fewer than 2^32 claims shows whether a place was narrowed to 32 bits: neither place has a claim, or they
+-- are one.
 abbrev pub NarrowEnough : Type 0
 NarrowEnough =
     (l : Limits) (e : Estate) (c : Call) → length (counted e) < 2 ^ 32 → (answered l e (narrow c) ≡ answered l e c) × (after l e (narrow c) ≡ after l e c)
