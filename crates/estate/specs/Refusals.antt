@@ -20,6 +20,10 @@ not_there = 4
 abbrev pub no_room : ℕ
 no_room = 5
 
+-- the last of them
+abbrev pub last_refusal : ℕ
+last_refusal = no_room
+
 -- what has to hold of a call, and the refusal where it does not
 pub record Check : Type 0 where
   pub holds : Bool

@@ -3,7 +3,7 @@ use Rattle.std.proofs.Common.{◌≡◌, ℕ, suc, ◌/◌, ◌≤◌, List, [],
 use Rattle.std.proofs.lemmas.Bool.Decides.{nat_tests}
 use Rattle.estate.specs.Calls.{Call, claims, proves, comes, shares, cents, garbled}
 use Rattle.wire.specs.Bytes.{Bytes, eight, numbers, row}
-use Rattle.wire.specs.Calls.{kind, fields, call_row, Sendable, extent}
+use Rattle.wire.specs.Calls.{kind, fields, call_row, Sendable, extent, last_call}
 use Rattle.wire.specs.Reading.{call_at, read, Whole}
 use Rattle.wire.specs.Laws.{OneCall}
 use Rattle.wire.proofs.Bytes.{number_at-eight, steps, row_back}
@@ -28,7 +28,7 @@ read_row (garbled n) h = absurd (omega (arith, h.known))
 pub one_call : OneCall
 one_call c k hc hk same = cc (read_row c hc, read_row k hk)
 
-fields_at : (k b : ℕ) (bs : List ℕ) → k ≤ 4 → suc (length bs) ≡ extent k → fields (call_at k (b ∷ bs)) ≡ numbers (length bs / 8) bs
+fields_at : (k b : ℕ) (bs : List ℕ) → k ≤ last_call → suc (length bs) ≡ extent k → fields (call_at k (b ∷ bs)) ≡ numbers (length bs / 8) bs
 fields_at k b bs known long = grind (arith, nat_tests, steps)
 
 -- bytes of the right kind and number are the row of the call that is read from them

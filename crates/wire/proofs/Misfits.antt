@@ -4,12 +4,12 @@ use Rattle.std.proofs.lemmas.List.{places, nil_from_length, take_at, drop_at}
 use Rattle.std.proofs.lemmas.Bool.Decides.{nat_tests}
 use Rattle.estate.specs.Calls.{Call, shares, garbled}
 use Rattle.wire.specs.Bytes.{Bytes, row}
-use Rattle.wire.specs.Calls.{kind, call_row, Sendable, extent, narrow}
+use Rattle.wire.specs.Calls.{kind, call_row, Sendable, extent, narrow, last_call}
 use Rattle.wire.specs.Reading.{call_at, read, Whole, Begins, FirstMisfit, first_extent, Heard, Split}
 use Rattle.wire.proofs.CallRows.{length-call_row, read_row, row_read}
 
 -- the first bytes of a known kind, no more than a call of it has, begin one: what they are with zeros behind them
-begins_known : (k p : ℕ) (bs : List ℕ) → get_or bs 0 0 ≡ k → 0 < p → p ≤ length bs → k ≤ 4 → p ≤ extent k → Bytes bs → Begins (take p bs)
+begins_known : (k p : ℕ) (bs : List ℕ) → get_or bs 0 0 ≡ k → 0 < p → p ≤ length bs → k ≤ last_call → p ≤ extent k → Bytes bs → Begins (take p bs)
 begins_known k p bs first some within known room h =
     let zeros : List ℕ = replicate (extent k - p) 0 in
     let w : Whole k (take p bs ++ zeros) = record { first = grind (arith, places); known = known; long = grind (arith, places) } in
@@ -31,7 +31,7 @@ first_misfit bs p h e = record {
       let long = ap length s.3 in
       let all = length-call_row s.0 in
       let known = s.2.known in
-      let over : get_or bs 0 0 ≤ 4 → p ≡ extent (get_or bs 0 0) = λ few. grind (arith, nat_tests) in
+      let over : get_or bs 0 0 ≤ last_call → p ≡ extent (get_or bs 0 0) = λ few. grind (arith, nat_tests) in
       grind (arith, places);
   at_end = λ last c s same. omega (arith, s.known, ap kind (sym (read_row c s) ∙ ap read same ∙ e));
 }

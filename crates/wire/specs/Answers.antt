@@ -1,6 +1,7 @@
 -- Answers as rows of bytes. Assumes nothing.
 use Rattle.std.specs.Prelude.{◌≡◌, ℕ, ◌^◌, ◌<◌, ◌≤◌, List, [], ◌∷◌, length, Some, None, Option, ◌≢◌}
 use Rattle.estate.specs.Answers.{Answer, refused, number, parts, amounts}
+use Rattle.estate.specs.Refusals.{last_refusal}
 use Rattle.wire.specs.Bytes.{Fitting, row}
 
 -- an answer's number and its values: a list follows its count
@@ -9,6 +10,10 @@ kind (refused n p) = 0
 kind (number n) = 1
 kind (parts d xs) = 2
 kind (amounts xs) = 3
+
+-- the number of the last kind of answer
+abbrev pub last_answer : ℕ
+last_answer = 3
 
 abbrev pub fields : Answer → List ℕ
 fields (refused n p) = n ∷ p ∷ []
@@ -21,7 +26,7 @@ answer_row a = row (kind a) (fields a)
 
 -- a refusal is one of the five, at a place of 32 bits
 abbrev pub Listed : Answer → Type 0
-Listed (refused n p) = (1 ≤ n) × (n ≤ 5) × (p < 2 ^ 32)
+Listed (refused n p) = (1 ≤ n) × (n ≤ last_refusal) × (p < 2 ^ 32)
 Listed (number n) = Unit {0}
 Listed (parts d xs) = Unit {0}
 Listed (amounts xs) = Unit {0}

@@ -1,5 +1,5 @@
 -- Calls as rows of bytes. Assumes nothing.
-use Rattle.std.specs.Prelude.{ℕ, ◌<◌, min, if◌then◌else◌, List, [], ◌∷◌, ◌==◌, nat_lt}
+use Rattle.std.specs.Prelude.{ℕ, ◌≤◌, min, if◌then◌else◌, List, [], ◌∷◌, ◌==◌, nat_lt}
 use Rattle.estate.specs.Calls.{Call, claims, proves, comes, shares, cents, garbled}
 use Rattle.wire.specs.Bytes.{Fitting, row}
 
@@ -11,6 +11,10 @@ kind (comes x) = 2
 kind shares = 3
 kind cents = 4
 kind (garbled n) = 5
+
+-- the number of the last call
+abbrev pub last_call : ℕ
+last_call = 4
 
 abbrev pub fields : Call → List ℕ
 fields (claims c) = c ∷ []
@@ -25,7 +29,7 @@ call_row c = row (kind c) (fields c)
 
 -- a call that can be written: each of its numbers fits eight bytes
 pub record Sendable (c : Call) : Type 0 where
-  pub known : kind c < 5
+  pub known : kind c ≤ last_call
   pub fitting : Fitting (fields c)
 
 -- how many bytes a call of kind k has

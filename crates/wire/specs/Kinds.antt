@@ -1,5 +1,7 @@
 -- The bytes that stand for the kinds of calls and answers. Assumes nothing.
 use Rattle.std.specs.Prelude.{◌≡◌, ℕ, ◌<◌, Result, MatchResult}
+use Rattle.wire.specs.Calls.{last_call}
+use Rattle.wire.specs.Answers.{last_answer}
 use Rattle.wire.specs.declared.kinds.CallKind.{CallKind}
 use Rattle.wire.specs.declared.kinds.CallKind.TheVariants as asked
 use Rattle.wire.specs.declared.kinds.AnswerKind.{AnswerKind}
@@ -21,7 +23,7 @@ answer_byte told.Amounts = 3
 
 -- what a byte stands for: a kind that has it, or no kind has
 abbrev pub IsCallKind : ℕ → Result CallKind (Unknown ℕ) → Type 0
-IsCallKind byte r = MatchResult r (λ k. call_byte k ≡ byte) (λ e. (e.0 ≡ byte) × (4 < byte))
+IsCallKind byte r = MatchResult r (λ k. call_byte k ≡ byte) (λ e. (e.0 ≡ byte) × (last_call < byte))
 
 abbrev pub IsAnswerKind : ℕ → Result AnswerKind (Unknown ℕ) → Type 0
-IsAnswerKind byte r = MatchResult r (λ k. answer_byte k ≡ byte) (λ e. (e.0 ≡ byte) × (3 < byte))
+IsAnswerKind byte r = MatchResult r (λ k. answer_byte k ≡ byte) (λ e. (e.0 ≡ byte) × (last_answer < byte))

@@ -2,7 +2,7 @@
 use Rattle.std.specs.Prelude.{◌≡◌, ℕ, ◌<◌, ◌⊎◌, List, Some, None, Ok, Err, Result, MatchResult}
 use Rattle.estate.specs.Calls as calls
 use Rattle.estate.specs.Answers as answers
-use Rattle.estate.specs.Refusals.{unreadable, too_large, not_lent, not_there, no_room}
+use Rattle.estate.specs.Refusals.{unreadable, too_large, not_lent, not_there, no_room, last_refusal}
 use Rattle.wire.specs.Answers.{Shaped, Received}
 use Rattle.wire.specs.declared.calls.Call.{Call}
 use Rattle.wire.specs.declared.calls.Call.TheVariants.{Claim, Prove, Come, Shares, Cents}
@@ -36,7 +36,7 @@ refusal_number NoRoom = no_room
 
 -- what a number stands for: the refusal that has it, or none has
 abbrev pub IsRefusal : ℕ → Result Refusal (Unknown ℕ) → Type 0
-IsRefusal n r = MatchResult r (λ k. refusal_number k ≡ n) (λ e. (e.0 ≡ n) × ((n < 1) ⊎ (5 < n)))
+IsRefusal n r = MatchResult r (λ k. refusal_number k ≡ n) (λ e. (e.0 ≡ n) × ((n < 1) ⊎ (last_refusal < n)))
 
 -- the answer, where its lists are those that `items` says
 abbrev pub told : {L : Type 0} → (L → List ℕ) → Answer L → answers.Answer

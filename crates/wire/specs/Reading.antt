@@ -2,9 +2,9 @@
 use Rattle.std.specs.Prelude.{◌≡◌, ℕ, suc, ◌<◌, ◌≤◌, min, if◌then◌else◌, ◌||◌, List, [], ◌++◌, length, take, drop, Some, None, Option, ◌==◌, ◌≢◌, nat_lt, slice_index}
 use Rattle.estate.specs.Calls.{Call, claims, proves, comes, shares, cents, garbled}
 use Rattle.wire.specs.Bytes.{number_at}
-use Rattle.wire.specs.Calls.{call_row, Sendable, extent, narrow}
+use Rattle.wire.specs.Calls.{call_row, Sendable, extent, narrow, last_call}
 
--- the call of kind k, at most 4, that these bytes are
+-- the call of kind k, which is known, that these bytes are
 abbrev pub call_at : ℕ → List ℕ → Call
 call_at k bs =
     if k == 0 then claims (number_at bs 1)
@@ -16,7 +16,7 @@ call_at k bs =
 -- of a call that is too short the one after its last; of one that is too long the first too many.
 abbrev pub read_as : ℕ → List ℕ → Call
 read_as k bs =
-    if length bs == 0 || nat_lt 4 k then garbled 0
+    if length bs == 0 || nat_lt last_call k then garbled 0
     else (if nat_lt (length bs) (extent k) then garbled (length bs)
     else (if nat_lt (extent k) (length bs) then garbled (extent k)
     else call_at k bs))
@@ -27,7 +27,7 @@ read bs = read_as (slice_index bs 0) bs
 -- these bytes are those of a call of kind k
 pub record Whole (k : ℕ) (bs : List ℕ) : Type 0 where
   pub first : slice_index bs 0 ≡ k
-  pub known : k ≤ 4
+  pub known : k ≤ last_call
   pub long : length bs ≡ extent k
 
 -- some call begins with these bytes
@@ -45,7 +45,7 @@ pub record FirstMisfit (bs : List ℕ) (p : ℕ) : Type 0 where
 -- how many bytes the first of a row of calls takes: all, where it cannot be read
 abbrev pub first_extent : List ℕ → ℕ
 first_extent bs =
-    if nat_lt 4 (slice_index bs 0) then length bs else min (extent (slice_index bs 0)) (length bs)
+    if nat_lt last_call (slice_index bs 0) then length bs else min (extent (slice_index bs 0)) (length bs)
 
 -- What reading the bytes bs as the call c says: it is what they are, up to the width of a place; where they are no call the
 -- place is that of the first byte that does not fit; and of the bytes of a call it is that call.
