@@ -1,5 +1,5 @@
 -- What the calls that change a desk leave. Assumes nothing.
-use Rattle.std.proofs.Common.{◌≡◌, ℕ, false, ◌==◌, ◌+◌, ◌*◌, ◌<◌, ◌≤◌, List, [], ◌∷◌, ◌++◌, length, take, drop, slice_index, slice_set, Ok, Err, sym, refl, ap, ◌∙◌, arith}
+use Rattle.std.proofs.Common.{◌≡◌, ℕ, false, ◌==◌, ◌+◌, ◌-◌, ◌*◌, ◌<◌, ◌≤◌, List, [], ◌∷◌, ◌++◌, length, take, drop, slice_index, slice_set, Ok, Err, sym, refl, ap, ◌∙◌, arith}
 use borrow.Rule.Slice.PartMut.{put_mid}
 use Rattle.std.proofs.lemmas.List.{places, take-append-drop, take-take, length_push, drop-set-lt, length-set, length-take-le, length-drop}
 use Rattle.std.proofs.lemmas.Slice.{drop-put_mid}
@@ -73,28 +73,31 @@ module _ (m : List ℕ) (there : ℕ) (is_there : there ≡ slice_index m 1) (he
       let n : turned (limits_of m) (estate_of m) (comes x) ≡ no_room = grind (arith, nat_tests) in
       (refused_by (comes x) m _ _ refl n (rw is refl), refused_told (comes x) m _ _ refl n (rw is refl), refl, unchanged m)
 
--- memory whose header says the limit and how many claims there are, of which so many words are the ledger
-module _ (m : List ℕ) (limit count k : ℕ) (is_limit : limit ≡ slice_index m 0) (is_count : count ≡ slice_index m 2) (span : k ≡ 3 * limit) (headed : Headed m) where
+-- memory whose header says how many claims there are, and of which so many words are the ledger
+module _ (m : List ℕ) (end count k : ℕ) (is_end : end ≡ words_asked (slice_index m 0)) (is_count : count ≡ slice_index m 2) (spans : k ≡ end - header_words) (headed : Headed m) where
   abbrev ledger_words : List ℕ
   ledger_words = take k (drop header_words m)
 
+  span : k ≡ 3 * slice_index m 0
+  span = omega (arith, is_end, spans)
+
   part_long : length ledger_words ≡ k
   part_long =
-      length-take-le k (drop header_words m) (omega (arith, length-drop header_words m, headed.words, is_limit))
+      length-take-le k (drop header_words m) (omega (arith, length-drop header_words m, headed.words, span))
 
-  pub part_room : room ledger_words ≡ limit
-  part_room = let l = part_long in omega arith
+  pub part_room : room ledger_words ≡ slice_index m 0
+  part_room = omega (arith, part_long, span)
 
   count_is : length (estate_of m).claimed ≡ count
   count_is = claims_counted m headed ∙ sym is_count
 
   came : take count ledger_words ≡ (estate_of m).claimed
-  came = let within : count ≤ k = omega (arith, headed.few, is_limit, is_count) in take-take count k (drop header_words m) within ∙ ap (λ n. take n (drop header_words m)) is_count
+  came = let within : count ≤ k = omega (arith, headed.few, span, is_count) in take-take count k (drop header_words m) within ∙ ap (λ n. take n (drop header_words m)) is_count
 
   pub part_is : Stands m → ledger_words ≡ rows (limits_of m) (estate_of m)
   part_is s =
       let b = body _ (estate_of m) (rest_of m) s.allowed.few in
-      rw (span, is_limit) (ap (λ ws. take (3 * slice_index m 0) (drop header_words ws)) s.laid ∙ b)
+      rw span (ap (λ ws. take (3 * slice_index m 0) (drop header_words ws)) s.laid ∙ b)
 
   unwritten : put_mid header_words k m ledger_words ≡ m
   unwritten =
@@ -105,22 +108,22 @@ module _ (m : List ℕ) (limit count k : ℕ) (is_limit : limit ≡ slice_index 
   put_bounded : (part : List ℕ) → length part ≡ length ledger_words → SameBounds m (put_mid header_words k m part)
   put_bounded part long =
       let room : header_words ≤ length m = omega (arith, headed.words) in
-      bounded m _ (put_below header_words k 0 m part (omega arith) room) (drop-put_mid header_words k m part _ (omega (arith, span, is_limit)) room (long ∙ part_long))
+      bounded m _ (put_below header_words k 0 m part (omega arith) room) (drop-put_mid header_words k m part _ (omega (arith, span)) room (long ∙ part_long))
 
   pub claim_done : (c : ℕ) (part : List ℕ) → Grown count c ledger_words part → c ≤ most_cents → Does (claims c) m (slice_set (put_mid header_words k m part) 2 (count + 1)) (Ok count)
   unfolding says Does Grown Enters
   claim_done c part (at, a) few =
       let n = count_is in
       let long = entered_long count c ledger_words part at a in
-      let room : count < limit = omega (arith, long.0, part_room) in
+      let room : count < slice_index m 0 = omega (arith, long.0, part_room) in
       let same = long.1 in
       let b = put_bounded part same in
-      let t : turned (limits_of m) (estate_of m) (claims c) ≡ 0 = grind (arith, nat_tests, is_limit) in (
+      let t : turned (limits_of m) (estate_of m) (claims c) ≡ 0 = grind (arith, nat_tests) in (
         λ s.
             let cs = (estate_of m).claimed ++ c ∷ [] in
             let new = rows_added _ (estate_of m) s.allowed.few c at part (rw (part_is s, sym n) at a) in
             let long : count + 1 ≡ length cs = omega (arith, length_push (estate_of m).claimed c) in
-            let w = claims_writes _ (estate_of m) (rest_of m) s.allowed.few cs part (omega (arith, is_limit)) new in
+            let w = claims_writes _ (estate_of m) (rest_of m) s.allowed.few cs part (omega arith) new in
             let k = span in
             served_by (claims c) m _ _ t (cc) (ap number (sym n)),
         told_by (claims c) m (slice_set (put_mid header_words k m part) 2 (count + 1)) _ t (claims_told m headed k part (count + 1) _ (omega (arith, same, part_long)) (entered_came count c ledger_words part at a ∙ ap (λ cs. cs ++ c ∷ []) came)) (ap number (sym n)),
@@ -133,8 +136,8 @@ module _ (m : List ℕ) (limit count k : ℕ) (is_limit : limit ≡ slice_index 
   claim_full c part t e few is =
       let n = count_is in
       let same : put_mid header_words k m part ≡ m = rw e.1 unwritten in
-      let full : limit ≤ count = omega (arith, part_room, e.0) in
-      let k : turned (limits_of m) (estate_of m) (claims c) ≡ no_room = grind (arith, nat_tests, is_limit) in
+      let full : slice_index m 0 ≤ count = omega (arith, part_room, e.0) in
+      let k : turned (limits_of m) (estate_of m) (claims c) ≡ no_room = grind (arith, nat_tests) in
       rw same (refused_by (claims c) m _ _ refl k (rw is refl), refused_told (claims c) m _ _ refl k (rw is refl), refl, unchanged m)
 
   pub prove_done : (i x c : ℕ) (part : List ℕ) → Altered count i c ledger_words part → c ≤ most_cents → x ≡ i → Does (proves i c) m (put_mid header_words k m part) (Ok x)
@@ -157,7 +160,7 @@ module _ (m : List ℕ) (limit count k : ℕ) (is_limit : limit ≡ slice_index 
       )
 
   missing : (i : ℕ) → Stands m → (why : Unfit) → IsUnfit count i (register ledger_words) why → count ≤ i
-  missing i s unfit.NotThere u = omega (arith, u, part_room, halves ledger_words, headed.few, is_limit, is_count)
+  missing i s unfit.NotThere u = omega (arith, u, part_room, halves ledger_words, headed.few, is_count)
   missing i s unfit.OutOfOrder u =
       absurd (rows_ordered _ (estate_of m) s.allowed.few i (rw (part_is s, sym count_is) at u))
 

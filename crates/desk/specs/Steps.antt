@@ -14,16 +14,16 @@ use Rattle.estate.specs.Calls.{Call}
 use Rattle.estate.specs.Order.{sorted}
 use Rattle.sums.specs.Trees.{IsTree}
 use Rattle.sums.specs.declared.tree.Tree.{Tree}
-use Rattle.desk.specs.Memory.{estate_of, Headed, Stands}
+use Rattle.desk.specs.Memory.{words_asked, estate_of, Headed, Stands}
 use Rattle.desk.specs.Opening.{refusal}
 use Rattle.desk.specs.Calling.{Served, SameBounds, Told}
 use Rattle.desk.specs.declared.header.Header.{Header}
 
--- what is read of the header
+-- what is read of the header, and where the ledger behind it ends
 pub record Reads (h : Header) (m : List ℕ) : Type 0 where
-  pub limit : h.limit ≡ slice_index m 0
   pub there : h.there ≡ slice_index m 1
   pub count : h.count ≡ slice_index m 2
+  pub end : h.end ≡ words_asked (slice_index m 0)
   pub headed : Headed m
 
 -- in a desk, this is a tree of sums over its claims in order

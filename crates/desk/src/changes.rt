@@ -18,8 +18,7 @@ impl Header {
         requires moderate { cents ≤ most_cents }
         ensures { Does (claims cents) mem.old mem.new result }
     {
-        let end = HEADER + 3 * self.limit;
-        let Some(_) = add(&mut mem[HEADER..end], self.count, cents) else {
+        let Some(_) = add(&mut mem[HEADER..self.end], self.count, cents) else {
             return Err(refused(Refusal::NoRoom, 0));
         };
         let count = self.count as u64;
@@ -34,8 +33,12 @@ impl Header {
         requires moderate { cents ≤ most_cents }
         ensures { Does (proves place cents) mem.old mem.new result }
     {
-        let end = HEADER + 3 * self.limit;
-        let Some(_) = change(&mut mem[HEADER..end], self.count, place as usize, cents) else {
+        let Some(_) = change(
+            &mut mem[HEADER..self.end],
+            self.count,
+            place as usize,
+            cents,
+        ) else {
             return Err(refused(Refusal::NotThere, 0));
         };
         Ok(u64::from(place))

@@ -41,8 +41,7 @@ impl Header {
         requires { Reads self mem.now }
         ensures { Summed mem.now result }
     {
-        let end = HEADER + 3 * self.limit;
-        tree_of(&mem[HEADER..end], self.count).unwrap()
+        tree_of(&mem[HEADER..self.end], self.count).unwrap()
     }
 
     // Writes the whole cents of all.

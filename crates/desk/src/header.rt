@@ -16,12 +16,12 @@ pub(crate) const THERE: usize = 1;
 
 pub(crate) const COUNT: usize = 2;
 
-// The numbers of the header.
+// The numbers of the header, and the place where the ledger behind it ends.
 #[derive(Clone, Copy, Debug)]
 pub(crate) struct Header {
-    pub(crate) limit: usize,
     pub(crate) there: u64,
     pub(crate) count: usize,
+    pub(crate) end: usize,
 }
 
 impl Header {
@@ -33,17 +33,15 @@ impl Header {
         let [limit, there, count, ..] = *mem else {
             return None;
         };
-        let limit = limit as usize;
-        let count = count as usize;
-        let loan = asked(limit).ok()?;
+        let loan = asked(limit as usize).ok()?;
         let fits = there <= MOST_THERE
             && count <= limit
             && loan.words <= mem.len()
             && loan.bytes <= out.len();
         fits.then_some(Header {
-            limit,
             there,
-            count,
+            count: count as usize,
+            end: loan.words,
         })
     }
 }
