@@ -1,7 +1,8 @@
 -- An estate: what is there, and what is claimed. What others say of an estate they say by the words below, not by its
 -- fields, so that a wider estate changes these words alone. Assumes nothing.
-use Rattle.std.specs.Prelude.{◌≡◌, ℕ, ◌≤◌, min, true, List, [], length, All, sum}
+use Rattle.std.specs.Prelude.{◌≡◌, ℕ, ◌≤◌, true, List, [], length, All, sum}
 use Rattle.estate.specs.Division.{divides}
+use Rattle.estate.specs.Level.{divided_of_sum}
 use Rattle.estate.specs.Limits.{most_creditors, most_cents, most_there}
 
 pub record Estate : Type 0 where
@@ -27,7 +28,7 @@ counted e = e.claimed
 
 -- what is divided: what is there, or all that is claimed if that is less
 abbrev pub divided : Estate → ℕ
-divided e = min (amount e) (sum (counted e))
+divided e = divided_of_sum (amount e) (sum (counted e))
 
 -- these shares, in d-ths of a cent, are a division of the estate
 abbrev pub Shared : Estate → ℕ → List ℕ → Type 0

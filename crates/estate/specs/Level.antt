@@ -1,5 +1,5 @@
 -- The level: how much each creditor gets, or loses, at most. One fraction decides the whole division. Assumes nothing.
-use Rattle.std.specs.Prelude.{ℕ, suc, ◌-◌, ◌*◌, Bool, List, [], ◌∷◌, length, if◌then◌else◌, nat_le, sum}
+use Rattle.std.specs.Prelude.{ℕ, suc, ◌-◌, ◌*◌, min, Bool, List, [], ◌∷◌, length, if◌then◌else◌, nat_le, sum}
 use Rattle.estate.specs.Order.{sorted}
 
 -- the level is the fraction spread / sharers: what is spread among the creditors whose claims reach it
@@ -14,7 +14,11 @@ fill n [] = record { spread = n; sharers = 0 }
 fill n (c ∷ cs) =
     if nat_le n (suc (length cs) * c) then record { spread = n; sharers = suc (length cs) } else fill (n - c) cs
 
--- Which side it is, and what is filled in, told from the sum s of the claims alone.
+-- What is divided, which side it is, and what is filled in, told from the sum s of the claims alone.
+
+-- what is divided of x cents that are there: all of them, or all that is claimed if that is less
+abbrev pub divided_of_sum : ℕ → ℕ → ℕ
+divided_of_sum x s = min x s
 
 -- e cents are at most half of the sum: everybody gets at most half of its claim; otherwise everybody loses at most half
 abbrev pub scarce_of_sum : ℕ → ℕ → Bool

@@ -1,9 +1,9 @@
 -- When claims and the words beside them are a tree; and what is found going down such words, whatever they are. Assumes
 -- nothing.
-use Rattle.std.specs.Prelude.{◌≡◌, ℕ, ◌<◌, ◌≤◌, min, List, length, Some, None, Option}
+use Rattle.std.specs.Prelude.{◌≡◌, ℕ, ◌<◌, ◌≤◌, List, length, Some, None, Option}
 use Rattle.estate.specs.Limits.{most_there}
 use Rattle.std.specs.List.Sorted.{IsNonDecreasing}
-use Rattle.estate.specs.Level.{scarce_of_sum, target_of_sum}
+use Rattle.estate.specs.Level.{divided_of_sum, scarce_of_sum, target_of_sum}
 use Rattle.level.specs.Sides.{gains}
 use Rattle.level.specs.declared.closed.Terms.{Terms}
 use Rattle.sums.specs.Nodes.{sums_of}
@@ -35,4 +35,4 @@ pub record Leads (e s : ℕ) (t : Tree) (r : Terms) : Type 0 where
 abbrev pub LeadsTo : ℕ → Tree → Option Terms → Type 0
 LeadsTo there t None = most_there < there
 LeadsTo there t (Some r) =
-    (there ≤ most_there) × Leads (min there (total_of t.sums.now)) (total_of t.sums.now) t r
+    (there ≤ most_there) × Leads (divided_of_sum there (total_of t.sums.now)) (total_of t.sums.now) t r

@@ -2,7 +2,7 @@
 use Rattle.std.proofs.Common.{◌≡◌, ℕ, suc, ◌+◌, ◌<◌, List, [], ◌∷◌, ◌++◌, length, take, Some, None, Ok, Err, Option, refl, sym, ◌∙◌, subst, arith}
 use mathlib.Core.Logic.{inl, inr}
 use Rattle.std.proofs.lemmas.Bool.{cases_Bool}
-use Rattle.text.specs.Laws.{FirstMisfit, MisfitsFirst}
+use Rattle.text.specs.Laws.{LineMisfit, MisfitsFirst}
 use Rattle.text.specs.Read.{Reading, is_blank, grown, grows, so_far, closed, numbers_from, numbers_of}
 
 -- What a reader that is at a place reads of some bytes, and that place p is where it stops.
@@ -10,7 +10,7 @@ abbrev pub Readable : {A : Type 0} → (List ℕ → Reading A) → Type 0
 Readable {A} read = (rest : List ℕ) × (x : A) × (read rest ≡ Ok x)
 
 abbrev pub Stops : {A : Type 0} → (List ℕ → Reading A) → ℕ → List ℕ → ℕ → Type 0
-Stops read at bs p = (k : ℕ) × (p ≡ at + k) × FirstMisfit read bs k
+Stops read at bs p = (k : ℕ) × (p ≡ at + k) × LineMisfit read bs k
 
 -- it stops at once, or one byte on
 module _ {A : Type 0} (read : List ℕ → Reading A) (at p : ℕ) where
@@ -30,10 +30,10 @@ module _ {A : Type 0} (read : List ℕ → Reading A) (at p : ℕ) where
     },
   )
 
-pub first_stop : {A : Type 0} (read : List ℕ → Reading A) (line : List ℕ) (p : ℕ) → Stops read 0 line p → FirstMisfit read line p
+pub first_stop : {A : Type 0} (read : List ℕ → Reading A) (line : List ℕ) (p : ℕ) → Stops read 0 line p → LineMisfit read line p
 first_stop read line p (k, place, m) =
     let same : k ≡ p = omega (arith, place) in
-    subst (FirstMisfit read line) same m
+    subst (LineMisfit read line) same m
 
 -- numbers, of which something is made that is read where they are, and stops where they do
 module _ {A : Type 0} (made : Reading (List ℕ) → Reading A) (some : (ns : List ℕ) → (x : A) × (made (Ok ns) ≡ Ok x)) (stops : (p : ℕ) → made (Err p) ≡ Err p) where

@@ -16,11 +16,11 @@ SharesBack =
 
 -- Place p is that of the first byte that does not fit: some line that can be read begins with the bytes before it, and none
 -- with these and the one at p, if there is one.
-pub record FirstMisfit {A : Type 0} (read : List ℕ → Reading A) (line : List ℕ) (p : ℕ) : Type 0 where
+pub record LineMisfit {A : Type 0} (read : List ℕ → Reading A) (line : List ℕ) (p : ℕ) : Type 0 where
   pub within : p ≤ length line
   pub before : (rest : List ℕ) × (x : A) × (read (take p line ++ rest) ≡ Ok x)
   pub with_it : p < length line → (rest : List ℕ) (x : A) → read (take (suc p) line ++ rest) ≢ Ok x
 
 -- what is answered of a line that cannot be read is this place
 abbrev pub MisfitsFirst : {A : Type 0} → (List ℕ → Reading A) → Type 0
-MisfitsFirst read = (line : List ℕ) (p : ℕ) → read line ≡ Err p → FirstMisfit read line p
+MisfitsFirst read = (line : List ℕ) (p : ℕ) → read line ≡ Err p → LineMisfit read line p
