@@ -42,7 +42,7 @@ module _ (m out : List ℕ) (lent : Lent m out) where
   unfolding Sends Called
   answered_by c new sent a (Ok n) none plain room served told bounds w =
       (a, (w.0, w.1, plain), replied c new a none served told bounds, tt)
-  answered_by c new sent a (Err t) none plain room served told bounds w = let no_room : ⊥ = omega (arith, room, w) in absurd no_room
+  answered_by c new sent a (Err t) none plain room served told bounds w = absurd (omega (arith, room, w.0))
 
   pub number_done : (c : Call) (new sent : List ℕ) (n : ℕ) (r : Result ℕ TurnedAway) → turned_alone c ≡ 0 → Does c m new (Ok n) → Sends (number n) out sent r → Called c m new out sent r
   unfolding Does

@@ -6,10 +6,11 @@ use Rattle.shares.specs.Laws.{TermsFor}
 use Rattle.register.specs.declared.row.Moved.{Moved}
 use Rattle.register.specs.declared.rows.Unfit.{Unfit}
 use Rattle.sums.specs.Ledger.{Enters, Amends}
+use Rattle.estate.specs.Refusals.{not_lent}
 use Rattle.wire.specs.Answers.{answer_row, Sendable}
 use Rattle.wire.specs.Written.{IsWritten}
 use Rattle.wire.specs.declared.refusals.TurnedAway.{TurnedAway}
-use Rattle.estate.specs.Answers.{Answer, number}
+use Rattle.estate.specs.Answers.{Answer, number, refused}
 use Rattle.estate.specs.Calls.{Call}
 use Rattle.estate.specs.Order.{sorted}
 use Rattle.sums.specs.Trees.{IsTree}
@@ -64,7 +65,8 @@ unfoldable pub Does : Call → List ℕ → List ℕ → Result ℕ TurnedAway �
 Does c m new r =
     (Stands m → Served c m new (outcome r)) × Told c m new (outcome r) × IfErr r (λ _. new ≡ m) × SameBounds m new
 
--- An answer was written at the start of lent bytes, and can be read back; or there was too little room for it.
+-- An answer was written at the start of lent bytes, and can be read back; or there was too little room for it, which is
+-- refused as too little that is lent, and nothing was written.
 unfoldable pub Sends : Answer → List ℕ → List ℕ → Result ℕ TurnedAway → Type 0
 Sends a out new (Ok n) = IsWritten (answer_row a) out new n × Sendable a
-Sends a out new (Err t) = length out < length (answer_row a)
+Sends a out new (Err t) = (length out < length (answer_row a)) × (refusal t ≡ refused not_lent 1) × (new ≡ out)
