@@ -23,7 +23,7 @@ use Rattle.wire.proofs.Bytes.{length-row}
 use Rattle.desk.specs.Memory.{estate_of, Stands, Lent}
 use Rattle.desk.specs.Steps.{Parted, Termed, Sends, Does}
 use Rattle.desk.specs.Calling.{is_refused, Served, SameBounds, Told, turned_alone, Replied, Called}
-use Rattle.desk.specs.Opening.{refusal}
+use Rattle.wire.specs.Meaning.{refusal}
 use Rattle.desk.proofs.Words.{claims_counted}
 use Rattle.desk.proofs.Keeping.{unchanged}
 

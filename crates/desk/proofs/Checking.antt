@@ -16,7 +16,7 @@ use Rattle.wire.specs.declared.refusals.Refusal.TheVariants.{Unreadable, TooLarg
 use Rattle.wire.proofs.Narrow.{narrow_enough}
 use Rattle.desk.specs.Memory.{limits_of, estate_of, Headed, Lent}
 use Rattle.desk.specs.Calling.{Told, Called, turned_alone, turned_unlent}
-use Rattle.desk.specs.Opening.{refusal}
+use Rattle.wire.specs.Meaning.{refusal}
 use Rattle.desk.proofs.Keeping.{refused_by, refused_told, unchanged}
 use Rattle.desk.proofs.Words.{claims_counted}
 use Rattle.desk.proofs.Answering.{not_alone}

@@ -9,7 +9,7 @@ use Rattle.wire.specs.Written.{IsWritten}
 use Rattle.wire.specs.Answers.{answer_row, Sendable}
 use Rattle.wire.specs.declared.refusals.TurnedAway.{TurnedAway}
 use Rattle.desk.specs.Memory.{layout, limits_of, estate_of, rest_of, Stands, Lent}
-use Rattle.desk.specs.Opening.{refusal}
+use Rattle.wire.specs.Meaning.{refusal}
 
 -- whether an answer is a refusal
 abbrev pub is_refused : Answer → Bool

@@ -4,14 +4,10 @@ use Rattle.estate.specs.Answers.{Answer, refused}
 use Rattle.estate.specs.Estates.{new_estate}
 use Rattle.estate.specs.Limits.{most_creditors}
 use Rattle.estate.specs.Refusals.{not_lent}
-use Rattle.wire.specs.Meaning.{refusal_number}
+use Rattle.wire.specs.Meaning.{refusal}
 use Rattle.wire.specs.declared.refusals.TurnedAway.{TurnedAway}
 use Rattle.desk.specs.Memory.{layout, limits_for, words_asked, bytes_asked}
 use Rattle.desk.specs.declared.opening.Loan.{Loan}
-
--- what is turned away, as an answer
-abbrev pub refusal : TurnedAway → Answer
-refusal t = refused (refusal_number t.why) t.place
 
 -- how much a desk for n creditors asks for; for more than there may be there is none
 abbrev pub IsAsked : ℕ → Result Loan TurnedAway → Type 0

@@ -16,7 +16,7 @@ use Rattle.estate.specs.Order.{sorted}
 use Rattle.sums.specs.Trees.{IsTree}
 use Rattle.sums.specs.declared.tree.Tree.{Tree}
 use Rattle.desk.specs.Memory.{words_asked, estate_of, Headed, Stands}
-use Rattle.desk.specs.Opening.{refusal}
+use Rattle.wire.specs.Meaning.{refusal}
 use Rattle.desk.specs.Calling.{Served, SameBounds, Told}
 use Rattle.desk.specs.declared.header.Header.{Header}
 

@@ -9,12 +9,12 @@ use Rattle.estate.specs.Estates.{new_estate}
 use Rattle.estate.specs.Limits.{most_creditors, most_served}
 use Rattle.estate.specs.Right.{answered}
 use Rattle.wire.specs.Answers.{answer_row, Sendable, Received}
-use Rattle.wire.specs.Meaning.{told}
+use Rattle.wire.specs.Meaning.{refusal, told}
 use Rattle.wire.specs.declared.answers.Answer as answers
 use Rattle.wire.specs.declared.refusals.TurnedAway.{TurnedAway}
 use Rattle.wire.proofs.AnswerRows.{one_answer}
 use Rattle.desk.specs.Memory.{layout, limits_for, words_asked, bytes_asked, limits_of, estate_of, rest_of, Allowed, Stands}
-use Rattle.desk.specs.Opening.{refusal, Opened}
+use Rattle.desk.specs.Opening.{Opened}
 use Rattle.desk.specs.Calling.{Given, Served, Called}
 use Rattle.desk.specs.Promises.{NewDesk}
 use Rattle.desk.proofs.Words.{limits_read, estate_read}

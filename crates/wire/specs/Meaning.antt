@@ -13,8 +13,10 @@ use Rattle.wire.specs.declared.answers.DecodeError.TheVariants.{NoAnswer, OutOfM
 use Rattle.wire.specs.declared.refusals.Garbled.{Garbled}
 use Rattle.wire.specs.declared.refusals.Refusal.{Refusal}
 use Rattle.wire.specs.declared.refusals.Refusal.TheVariants.{Unreadable, TooLarge, NotLent, NotThere, NoRoom}
+use Rattle.wire.specs.declared.refusals.TurnedAway.{TurnedAway}
 use Rattle.wire.specs.declared.kinds.Unknown.{Unknown}
 
+-- a call of the code, as the definitions have it
 abbrev pub meaning : Call → calls.Call
 meaning (Claim c) = calls.claims c
 meaning (Prove i c) = calls.proves i c
@@ -27,6 +29,7 @@ abbrev pub heard : Result Call Garbled → calls.Call
 heard (Ok c) = meaning c
 heard (Err e) = calls.garbled e.0
 
+-- the number of a refusal
 abbrev pub refusal_number : Refusal → ℕ
 refusal_number Unreadable = unreadable
 refusal_number TooLarge = too_large
@@ -38,9 +41,13 @@ refusal_number NoRoom = no_room
 abbrev pub IsRefusal : ℕ → Result Refusal (Unknown ℕ) → Type 0
 IsRefusal n r = MatchResult r (λ k. refusal_number k ≡ n) (λ e. (e.0 ≡ n) × ((n < 1) ⊎ (last_refusal < n)))
 
+-- a call that is turned away, as an answer
+abbrev pub refusal : TurnedAway → answers.Answer
+refusal t = answers.refused (refusal_number t.why) t.place
+
 -- the answer, where its lists are those that `items` says
 abbrev pub told : {L : Type 0} → (L → List ℕ) → Answer L → answers.Answer
-told items (Refused t) = answers.refused (refusal_number t.why) t.place
+told items (Refused t) = refusal t
 told items (Number n) = answers.number n
 told items (Parts d xs) = answers.parts d (items xs)
 told items (Amounts xs) = answers.amounts (items xs)
