@@ -2,7 +2,7 @@
 use Rattle.std.specs.Prelude.{◌≡◌, ℕ, List, [], ◌∷◌}
 use Rattle.estate.specs.Calls.{shares, cents}
 use Rattle.estate.specs.Answers.{parts, amounts}
-use Rattle.estate.specs.Estates.{Estate, Shared}
+use Rattle.estate.specs.Estates.{Estate, new_estate, with_there, with_claimed, Shared}
 use Rattle.estate.specs.Right.{says}
 
 pub record Example : Type 0 where
@@ -12,7 +12,7 @@ pub record Example : Type 0 where
   pub in_whole : List ℕ
 
 abbrev pub example : ℕ → List ℕ → ℕ → List ℕ → List ℕ → Example
-example there claimed d xs ys = record { estate = record { there = there; claimed = claimed }; d = d; in_parts = xs; in_whole = ys }
+example there claimed d xs ys = record { estate = with_claimed (with_there new_estate there) claimed; d = d; in_parts = xs; in_whole = ys }
 
 abbrev pub table : List Example
 table =

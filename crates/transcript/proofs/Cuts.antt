@@ -10,7 +10,7 @@ use Rattle.std.specs.Prelude.{slice_index}
 use Rattle.std.specs.List.{flat_map}
 use Rattle.estate.specs.Calls.{Call, garbled}
 use Rattle.wire.specs.Bytes.{Bytes}
-use Rattle.wire.specs.Calls.{call_row, Sendable, extent}
+use Rattle.wire.specs.Calls.{call_row, Sendable, extent, last_call}
 use Rattle.wire.specs.Reading.{call_at, read, Whole, first_extent}
 use Rattle.wire.proofs.Bytes.{bytes_take, bytes_drop}
 use Rattle.wire.proofs.CallRows.{length-call_row, read_row, row_read}
@@ -65,7 +65,7 @@ cut_unread bs p cs u h = record {
 }
 
 -- or with a call
-cut_call : (bs : List ℕ) (c : Call) (cs : List Call) → Bytes bs → slice_index bs 0 ≤ 4 → extent (slice_index bs 0) ≤ length bs → c ≡ read (take (first_extent bs) bs) → IsCut (drop (first_extent bs) bs) cs → IsCut bs (c ∷ cs)
+cut_call : (bs : List ℕ) (c : Call) (cs : List Call) → Bytes bs → slice_index bs 0 ≤ last_call → extent (slice_index bs 0) ≤ length bs → c ≡ read (take (first_extent bs) bs) → IsCut (drop (first_extent bs) bs) cs → IsCut bs (c ∷ cs)
 cut_call bs c cs b known long is t =
     let k : ℕ = slice_index bs 0 in
     let first : List ℕ = take (first_extent bs) bs in
@@ -85,7 +85,7 @@ pub is_cut : Cut
 unfolding Holds
 is_cut bs [] b h = record { calls = []; rest = []; sendable = All-nil Sendable; bytes = h; held = inl (refl, refl) }
 is_cut bs (c ∷ cs) b h =
-    elim (cases_lt 4 (slice_index bs 0)) [
+    elim (cases_lt last_call (slice_index bs 0)) [
       | inl unknown_kind ↦ cut_unread bs 0 (c ∷ cs) (unknown h.0 unknown_kind) h
       | inr known ↦ elim (cases_lt (length bs) (extent (slice_index bs 0))) [
         | inl short ↦ cut_unread bs (length bs) (c ∷ cs) (cut_short h.0 known short) h

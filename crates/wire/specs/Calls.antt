@@ -1,7 +1,11 @@
 -- Calls as rows of bytes. Assumes nothing.
-use Rattle.std.specs.Prelude.{ℕ, ◌≤◌, min, if◌then◌else◌, List, [], ◌∷◌, ◌==◌, nat_lt}
+use Rattle.std.specs.Prelude.{ℕ, suc, ◌≤◌, min, if◌then◌else◌, List, [], ◌∷◌, ◌==◌, nat_lt}
 use Rattle.estate.specs.Calls.{Call, claims, proves, comes, shares, cents, garbled}
 use Rattle.wire.specs.Bytes.{Fitting, row}
+
+-- the number of the last call
+abbrev pub last_call : ℕ
+last_call = 4
 
 -- a call's number and its values; what cannot be read has a number that no call has
 abbrev pub kind : Call → ℕ
@@ -10,11 +14,7 @@ kind (proves i c) = 1
 kind (comes x) = 2
 kind shares = 3
 kind cents = 4
-kind (garbled n) = 5
-
--- the number of the last call
-abbrev pub last_call : ℕ
-last_call = 4
+kind (garbled n) = suc last_call
 
 abbrev pub fields : Call → List ℕ
 fields (claims c) = c ∷ []
