@@ -1,5 +1,6 @@
--- An estate: what is there, and what is claimed. What others say of an estate they say by the words below, not by its
--- fields, so that a wider estate changes these words alone. Assumes nothing.
+-- An estate: what is there, and what is claimed. What lies above says of an estate what it says by the words below, so that
+-- a wider estate changes these. Its fields themselves are read where calls change them, and where memory is laid out.
+-- Assumes nothing.
 use Rattle.std.specs.Prelude.{◌≡◌, ℕ, ◌≤◌, true, List, [], length, All, sum}
 use Rattle.estate.specs.Division.{divides}
 use Rattle.estate.specs.Level.{divided_of_sum}
