@@ -1,5 +1,7 @@
 // Memory that held anything.
-use crate::common::{HELD, MOST, MUCH, NOT_LENT, WORDS, assert_call, desk_of};
+use crate::common::{
+    HELD, LENT, MOST, MUCH, NOT_LENT, WORDS, assert_call, assert_stays, desk_of, put,
+};
 use desk::call;
 use std::process::Abort;
 use std::test::Fail;
@@ -9,10 +11,8 @@ use wire::Call::{self, Cents, Claim, Come, Prove, Shares};
 // Memory that held one number all over, and holds a header, and words from the 64th on.
 fn memory(held: u64, header: [u64; 3], behind: &[u64]) -> [u64; WORDS] {
     let mut words = [held; WORDS];
-    words[..3].copy_from_slice(&header);
-    for (word, other) in words[64..].iter_mut().zip(behind) {
-        *word = *other;
-    }
+    put(&mut words, 0, &header);
+    put(&mut words, 64, behind);
     words
 }
 
@@ -45,30 +45,40 @@ const CALLS: &[(Call, u8)] = &[
     (Cents, 3),
 ];
 
+// An answer begins with a byte, has room, and does not reach behind its end.
+fn assert_answer(rt: &impl Abort, out: &[u8; 92], sent: usize, kind: u8) {
+    assert!(rt; 0 < sent && sent <= 88);
+    assert!(rt; out[0] == kind);
+    assert_stays(rt, out, sent);
+}
+
+// The limit, spare words, and what lies behind a desk stay.
+fn assert_spared(rt: &impl Abort, mem: &[u64], before: &[u64], end: usize) {
+    for (i, (word, held)) in mem.iter().zip(before).enumerate() {
+        let spared = i == 0 || (3 <= i && i < 64) || end <= i;
+        assert!(rt; !spared || word == held);
+    }
+}
+
 // What most of these are answered is left open. None changes the limit, spare words, or what lies behind a desk or an
 // answer; shares and cents, and what is turned away, change nothing. Where a desk may be shares are answered, and cents are
 // answered or refused as too little is.
 fn assert_within(rt: &impl Abort, before: [u64; WORDS], end: usize, row: &[u8], kind: u8) {
     let mut mem = before;
-    let mut out = [170u8; 92];
+    let mut out = [LENT; 92];
     match call(&mut mem, row, &mut out) {
         Ok(sent) => {
             assert!(rt; kind == 1 || mem == before, "{row:?}");
-            assert!(rt; 0 < sent && sent <= 88);
-            assert_eq!(rt; out[0], kind);
-            assert!(rt; out[sent..] == [170u8; 92][sent..]);
+            assert_answer(rt, &out, sent, kind);
         }
         Err(turned) => {
             assert!(rt; mem == before, "{row:?}");
-            assert!(rt; kind == 1 || turned == NOT_LENT);
-            assert!(rt; kind != 2 || end == 0);
-            assert!(rt; out == [170u8; 92]);
+            assert!(rt; kind == 1 || (turned == NOT_LENT && (kind != 2 || end == 0)));
+            assert_stays(rt, &out, 0);
         }
     }
     assert!(rt; end <= WORDS);
-    assert!(rt; mem[0] == before[0]);
-    assert!(rt; mem[3..64] == before[3..64]);
-    assert!(rt; mem[end..] == before[end..]);
+    assert_spared(rt, &mem, &before, end);
 }
 
 // The same of each of the calls.
@@ -105,8 +115,8 @@ const SUMS: &[[u64; 8]] = &[
 fn assert_kept(rt: &impl Abort, mem: &mut [u64; WORDS], there: u64) {
     assert_call(rt, &mut mem[..88], Claim(9), 88, &Number(7));
     assert_call(rt, &mut mem[..88], Prove(1, 5), 88, &Number(1));
-    assert!(rt; mem[..3] == [8, there, 8][..]);
-    assert!(rt; mem[64..72] == [6, 5, 12, 3, 5, 1, 3, 9][..]);
+    assert!(rt; mem.starts_with(&[8, there, 8]));
+    assert!(rt; mem[64..].starts_with(&[6, 5, 12, 3, 5, 1, 3, 9]));
 }
 
 // All but the sums is right.

@@ -33,40 +33,63 @@ fn fill(rt: &impl Abort, mem: &mut [u64]) {
     }
 }
 
-// There is no room for one more, and a header that says so is no desk's. The last claim becomes one cent, the first in
-// order: each sum from place 0 on is nine cents less. 3,000 cents come: the last has half a cent, and each of the others
-// 5,999 parts of 2,046; 954 of them have three cents, and 69 two.
+// From which place on memory holds which words, when it is full, and when the last claim has become one cent.
+type Held = &'static [(usize, &'static [u64])];
+
+const FULL: Held = &[
+    (2110, &[10, 10, 10, 20, 10, 40, 10, 20, 10, 80]),
+    (3132, &[10, 20, 10, 10240, HELD, HELD]),
+];
+
+const CHANGED: Held = &[
+    (1086, &[10, 1, 1, 10]),
+    (2110, &[10, 10, 1, 11, 10, 31, 10, 20, 10, 71]),
+    (2623, &[5111, 10]),
+    (3132, &[10, 20, 10, 10231, HELD, HELD]),
+];
+
+fn assert_held(rt: &impl Abort, mem: &[u64], held: Held) {
+    for &(at, words) in held {
+        assert!(rt; at <= mem.len());
+        assert!(rt; mem[at..].starts_with(words), "at {at}");
+    }
+}
+
+// There is no room for one more, and a header that says so is no desk's.
+fn assert_full(rt: &impl Abort, mem: &mut [u64; 3138]) {
+    let before = *mem;
+    assert_call(rt, mem, Claim(10), 8216, &Refused(NO_ROOM));
+    assert!(rt; *mem == before);
+    mem[0] = 1025;
+    assert_call(rt, mem, Come(0), 8224, &Refused(NOT_LENT));
+    mem[0] = 1024;
+    assert!(rt; *mem == before);
+}
+
+// The last has half a cent, and each of the others 5,999 parts of 2,046; 954 of them have three cents, and 69 two.
+fn assert_divided(rt: &impl Abort, mem: &mut [u64]) {
+    let mut shares = [5999; 1024];
+    shares[1023] = 1023;
+    assert_call(rt, mem, Shares, 8216, &Parts(2046, &shares));
+    let mut cents = [2; 1024];
+    cents[..954].fill(3);
+    cents[1023] = 0;
+    assert_call(rt, mem, Cents, 8216, &Amounts(&cents));
+    let sum = cents.iter().fold(0u64, |sum, n| sum.wrapping_add(*n));
+    assert!(rt; sum == 3000);
+}
+
+// The last claim becomes one cent, the first in order: each sum from place 0 on is nine cents less. 3,000 cents come.
 #[test]
 fn as_many_creditors_as_may_be(rt: HostRuntime) -> Result<(), Fail> {
     let mut mem = [HELD; 3138];
     open(&mut mem, 1024)?;
     fill(&rt, &mut mem);
-    assert!(rt; mem[2110..2120] == [10, 10, 10, 20, 10, 40, 10, 20, 10, 80][..]);
-    assert!(rt; mem[3132..] == [10, 20, 10, 10240, HELD, HELD][..]);
-    let before = mem;
-    assert_call(&rt, &mut mem, Claim(10), 8216, &Refused(NO_ROOM));
-    assert!(rt; mem == before);
-    mem[0] = 1025;
-    assert_call(&rt, &mut mem, Come(0), 8224, &Refused(NOT_LENT));
-    mem[0] = 1024;
-    assert!(rt; mem == before);
+    assert_held(&rt, &mem, FULL);
+    assert_full(&rt, &mut mem);
     assert_call(&rt, &mut mem, Prove(1023, 1), 8216, &Number(1023));
     assert_call(&rt, &mut mem, Come(3000), 8216, &Number(3000));
-    assert!(rt; mem[1086..1090] == [10, 1, 1, 10][..]);
-    assert!(rt; mem[2110..2120] == [10, 10, 1, 11, 10, 31, 10, 20, 10, 71][..]);
-    assert!(rt; mem[2623..2625] == [5111, 10][..]);
-    assert!(rt; mem[3132..] == [10, 20, 10, 10231, HELD, HELD][..]);
-    let mut shares = [5999; 1024];
-    shares[1023] = 1023;
-    assert_call(&rt, &mut mem, Shares, 8216, &Parts(2046, &shares));
-    let mut cents = [2; 1024];
-    cents[..954].fill(3);
-    cents[1023] = 0;
-    assert_call(&rt, &mut mem, Cents, 8216, &Amounts(&cents));
-    let mut sum = 0u64;
-    for amount in cents {
-        sum = sum.wrapping_add(amount);
-    }
-    assert_eq!(rt; sum, 3000);
+    assert_held(&rt, &mem, CHANGED);
+    assert_divided(&rt, &mut mem);
     Ok(())
 }

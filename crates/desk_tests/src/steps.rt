@@ -1,5 +1,5 @@
 // Calls one after the other on a desk, and every word and byte after each.
-use crate::common::{HELD, Ledger, MUCH, Told, WORDS, assert_call, desk_of};
+use crate::common::{HELD, LENT, Ledger, MUCH, Told, WORDS, assert_call, assert_stays, desk_of};
 use desk::{call, open};
 use std::process::Abort;
 use std::test::Fail;
@@ -189,17 +189,19 @@ const ROWS: &[(&[u8], &[u8])] = &[
 ];
 
 // What lies behind an answer stays.
+fn assert_bytes(rt: &impl Abort, mem: &mut [u64], bytes: &[u8], row: &[u8]) {
+    let mut out = [LENT; 60];
+    assert_eq!(rt; call(mem, bytes, &mut out), Ok(row.len()));
+    assert!(rt; out.starts_with(row));
+    assert_stays(rt, &out, row.len());
+}
+
 #[test]
 fn bytes_of_answers(rt: HostRuntime) -> Result<(), Fail> {
     let mut mem = [HELD; WORDS];
     open(&mut mem, 3)?;
     for &(bytes, row) in ROWS {
-        let len = row.len();
-        assert!(rt; len <= 60);
-        let mut out = [170u8; 60];
-        assert_eq!(rt; call(&mut mem, bytes, &mut out), Ok(len));
-        assert!(rt; &out[..len] == row);
-        assert!(rt; out[len..] == [170u8; 60][len..]);
+        assert_bytes(&rt, &mut mem, bytes, row);
     }
     let ledger: Ledger = [&[300, 100, 200], &[100, 200, 300], &[100, 300, 300]];
     assert!(rt; mem == desk_of(3, 400, ledger));
