@@ -12,38 +12,70 @@ use wire::Call::{self, Cents, Claim, Come, Prove, Shares};
 // A call, and the number that it is answered.
 type Step = (Call, u64);
 
-// All cents that are left come, or some of them.
-fn come(random: &mut Numbers, left: &mut u64, there: u64) -> Step {
-    let more = match random.below(2) {
-        0 => *left,
-        _ => random.below(left.wrapping_add(1)),
-    };
-    *left = left.wrapping_sub(more);
-    (Come(more), there.wrapping_sub(*left))
+// Steps, those that are taken later, and how many cents are there in the end and have not come yet.
+#[derive(Drop)]
+struct Plan {
+    steps: Vec<Step>,
+    later: Vec<Step>,
+    there: u64,
+    left: u64,
 }
 
-// A third of the creditors claim something else at first; that is proved at once, or when all claims are made. Cents come in
-// between, and those that are left come last.
-fn steps(heap: Global, random: &mut Numbers, estate: Estate) -> Result<Vec<Step>, AllocError> {
-    let (claims, there) = estate;
-    let mut left = there;
-    let mut steps = Vec::new(heap);
-    let mut later = Vec::new(heap);
-    for (claim, place) in claims.iter().zip(0u32..1024) {
+impl Plan {
+    // All cents that are left come, or some of them.
+    fn come(&mut self, random: &mut Numbers) -> Result<(), AllocError> {
+        let more = match random.below(2) {
+            0 => self.left,
+            _ => random.below(self.left.wrapping_add(1)),
+        };
+        self.left = self.left.wrapping_sub(more);
+        let come = self.there.wrapping_sub(self.left);
+        self.steps.push((Come(more), come))?;
+        Ok(())
+    }
+
+    // A third of the creditors claim something else at first; that is proved at once, or when all claims are made. Cents
+    // come in between.
+    fn claim(&mut self, random: &mut Numbers, place: u32, claim: u64) -> Result<(), AllocError> {
         let number = u64::from(place);
         let kind = random.below(6);
-        let first = if kind < 2 { random.below(30) } else { *claim };
-        steps.push((Claim(first), number))?;
+        let first = if kind < 2 { random.below(30) } else { claim };
+        self.steps.push((Claim(first), number))?;
         if kind % 2 == 1 {
-            steps.push(come(random, &mut left, there))?;
+            self.come(random)?;
         }
         match kind {
-            0 => later.push((Prove(place, *claim), number))?,
-            1 => steps.push((Prove(place, *claim), number))?,
+            0 => self.later.push((Prove(place, claim), number))?,
+            1 => self.steps.push((Prove(place, claim), number))?,
             _ => {}
         }
+        Ok(())
     }
-    steps.push(come(random, &mut left, there))?;
+
+    // All claims are made. Cents that are left come last.
+    fn make(&mut self, random: &mut Numbers, claims: &[u64]) -> Result<(), AllocError> {
+        for (claim, place) in claims.iter().zip(0u32..1024) {
+            self.claim(random, place, *claim)?;
+        }
+        self.come(random)
+    }
+}
+
+fn steps(heap: Global, random: &mut Numbers, estate: Estate) -> Result<Vec<Step>, AllocError> {
+    let (claims, there) = estate;
+    let mut plan = Plan {
+        steps: Vec::new(heap),
+        later: Vec::new(heap),
+        there,
+        left: there,
+    };
+    plan.make(random, claims)?;
+    let Plan {
+        mut steps,
+        later,
+        left,
+        ..
+    } = plan;
     steps.extend(later)?;
     steps.push((Come(left), there))?;
     Ok(steps)
@@ -69,6 +101,32 @@ fn same(one: (u64, &[u64]), other: (u64, &[u64])) -> bool {
     one.1.len() == other.1.len()
 }
 
+// Each step is answered its number.
+fn take(rt: &impl Abort, heap: Global, mem: &mut [u64], steps: Vec<Step>) -> Result<(), Fail> {
+    for (call, number) in steps {
+        assert_eq!(rt; told(heap, mem, call)?, Number(number), "{call:?}");
+    }
+    Ok(())
+}
+
+// A desk answers with these shares, which are given in so many parts of a cent; its own parts are few, so that no product is
+// too large.
+fn assert_shares(
+    rt: &impl Abort,
+    heap: Global,
+    mem: &mut [u64],
+    claims: &[u64],
+    wanted: (u64, &[u64]),
+) -> Result<(), Fail> {
+    let Parts(d, found) = told(heap, mem, Shares)? else {
+        panic!(rt; "{claims:?}");
+    };
+    assert!(rt; 0 < d && d <= 1000);
+    assert!(rt; same((d, &found), wanted), "{claims:?}");
+    assert!(rt; check(d, claims, &found).is_ok(), "{claims:?}");
+    Ok(())
+}
+
 // Numbers at random, and memory for a desk of up to twelve creditors.
 #[derive(Drop)]
 pub(crate) struct Bench {
@@ -86,7 +144,7 @@ impl Bench {
     }
 
     // A desk is opened where another was, and takes the steps. It answers with these shares, which are given in so many
-    // parts of a cent, and with their whole cents; its own parts are few, so that no product is too large.
+    // parts of a cent, and with their whole cents.
     pub(crate) fn assert_desk(
         &mut self,
         rt: &impl Abort,
@@ -102,17 +160,10 @@ impl Bench {
         assert!(rt; words <= 100);
         let lent = &mut self.words[..words];
         open(lent, limit)?;
-        for (call, number) in steps {
-            assert_eq!(rt; told(heap, lent, call)?, Number(number), "{estate:?}");
-        }
-        let Parts(d, found) = told(heap, lent, Shares)? else {
-            panic!(rt; "{estate:?}");
-        };
-        assert!(rt; 0 < d && d <= 1000);
-        assert!(rt; same((d, &found), (parts, shares)), "{estate:?}");
-        assert_eq!(rt; check(d, claims, &found), Ok(()), "{estate:?}");
-        let cents = whole_cents(heap, parts, shares)?;
-        assert_eq!(rt; told(heap, lent, Cents)?, Amounts(cents), "{estate:?}");
+        take(rt, heap, lent, steps)?;
+        assert_shares(rt, heap, lent, claims, (parts, shares))?;
+        let cents = Amounts(whole_cents(heap, parts, shares)?);
+        assert_eq!(rt; told(heap, lent, Cents)?, cents, "{estate:?}");
         Ok(())
     }
 }

@@ -58,6 +58,15 @@ fn pour(heap: Global, parts: u64, estate: Estate) -> Result<Vec<u64>, AllocError
     vessels.iter().map(|vessel| vessel.water).collect(heap)
 }
 
+// There is one part less in one vessel and one more in another.
+fn shift(water: &mut [u64], from: usize, to: usize) {
+    for (i, one) in water.iter_mut().enumerate() {
+        *one = one
+            .wrapping_sub(u64::from(i == from))
+            .wrapping_add(u64::from(i == to));
+    }
+}
+
 // What was poured in is accepted. One part less in one vessel and one more in another is refused, whichever these are. Gives
 // how often it was.
 fn assert_checked(rt: &impl Abort, parts: u64, claims: &[u64], water: &mut [u64]) -> u64 {
@@ -65,12 +74,10 @@ fn assert_checked(rt: &impl Abort, parts: u64, claims: &[u64], water: &mut [u64]
     assert!(rt; check(parts, claims, water).is_ok(), "{claims:?}");
     for i in 0..water.len() {
         for j in 0..water.len() {
-            if i != j && water[i] > 0 {
-                water[i] -= 1;
-                water[j] = water[j].wrapping_add(1);
+            if i != j && water.get(i) > Some(&0) {
+                shift(water, i, j);
                 assert!(rt; check(parts, claims, water).is_err(), "{claims:?}");
-                water[j] = water[j].wrapping_sub(1);
-                water[i] = water[i].wrapping_add(1);
+                shift(water, j, i);
                 refused = refused.wrapping_add(1);
             }
         }
