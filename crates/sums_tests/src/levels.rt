@@ -1,13 +1,19 @@
 // Levels, sums of all claims and terms worked out by hand, over sums worked out by hand.
+use crate::simple::MOST;
 use level::{Fraction, Side, Terms};
-use std::test::Fail;
+use std::process::Abort;
 use sums::Tree;
 
-const MOST: u64 = 18446744073709551615;
+// The tree of claims and the sums over them.
+fn tree_of<'a>(rt: &impl Abort, claims: &'a [u64], sums: &'a [u64]) -> Tree<'a> {
+    Tree::new(claims, sums).expect(rt, "not one sum for each claim")
+}
 
 const SEVEN: &[u64] = &[10, 20, 30, 40, 50, 60, 70];
 
 const OVER_SEVEN: &[u64] = &[10, 30, 30, 100, 50, 110, 70];
+
+const LARGE: &[u64] = &[1_000_000_000_001];
 
 const NINE: &[u64] = &[1, 2, 3, 4, 5, 6, 7, 8, 9];
 
@@ -61,16 +67,15 @@ const FILLED: &[(&[u64], &[u64], u64, u64, u64)] = &[
 ];
 
 #[test]
-fn levels_found(rt: HostRuntime) -> Result<(), Fail> {
+fn levels_found(rt: HostRuntime) {
     for &(claims, sums, target, numerator, denominator) in FILLED {
         let level = Fraction {
             numerator,
             denominator,
         };
-        let tree = Tree::new(claims, sums).ok_or("not one sum for each claim")?;
-        assert_eq!(rt; tree.descend(target).level, level, "at {target}");
+        let tree = tree_of(&rt, claims, sums);
+        assert!(rt; tree.descend(target).level == level, "at {target}");
     }
-    Ok(())
 }
 
 // Claims, the sums over them, and what they come to: the last three are more than a word holds, and the one before as much.
@@ -89,17 +94,16 @@ const TOTALS: &[(&[u64], &[u64], u64)] = &[
 ];
 
 #[test]
-fn totals(rt: HostRuntime) -> Result<(), Fail> {
+fn totals(rt: HostRuntime) {
     for &(claims, sums, all) in TOTALS {
-        let tree = Tree::new(claims, sums).ok_or("not one sum for each claim")?;
-        assert_eq!(rt; tree.total(), all);
+        let tree = tree_of(&rt, claims, sums);
+        assert!(rt; tree.total() == all, "{all}");
     }
-    Ok(())
 }
 
 // What is there, the claims, the sums over them; what is levelled, and what is spread among how many: some there, one cent
 // below one half, one half, one cent above; some lost; of seven claims one half, and more; all covered, exactly and with
-// more; nothing there; no creditors; and claims that no word holds together.
+// more; nothing there; no creditors; claims that no word holds together; and as much as may be there.
 const TERMS: &[(u64, &[u64], &[u64], Side, u64, u64)] = &[
     (200, &[100, 200, 300], &[100, 300, 300], Side::Gains, 300, 2),
     (299, &[100, 200, 300], &[100, 300, 300], Side::Gains, 298, 1),
@@ -127,33 +131,26 @@ const TERMS: &[(u64, &[u64], &[u64], Side, u64, u64)] = &[
     (0, &[1, 2], &[1, 3], Side::Gains, 0, 2),
     (10, &[], &[], Side::Gains, 0, 0),
     (7, &[2, MOST, MOST], &[2, MOST, MOST], Side::Gains, 12, 2),
+    (1_000_000_000_000, LARGE, LARGE, Side::Losses, 2, 1),
 ];
 
 #[test]
-fn terms_found(rt: HostRuntime) -> Result<(), Fail> {
+fn terms_found(rt: HostRuntime) {
     for &(there, claims, sums, side, numerator, denominator) in TERMS {
         let level = Fraction {
             numerator,
             denominator,
         };
-        let tree = Tree::new(claims, sums).ok_or("not one sum for each claim")?;
-        assert_eq!(rt; tree.terms(there), Some(Terms { side, level }));
+        let tree = tree_of(&rt, claims, sums);
+        assert!(rt; tree.terms(there) == Some(Terms { side, level }), "{there}");
     }
-    Ok(())
 }
 
-// As much as may be there, and one cent more.
+// One cent more than may be there.
 #[test]
-fn most_there(rt: HostRuntime) -> Result<(), Fail> {
-    let tree = Tree::new(&[1_000_000_000_001], &[1_000_000_000_001]).ok_or("no tree")?;
-    let level = Fraction {
-        numerator: 2,
-        denominator: 1,
-    };
-    let side = Side::Losses;
-    assert_eq!(rt; tree.terms(1_000_000_000_000), Some(Terms { side, level }));
+fn too_much_there(rt: HostRuntime) {
+    let tree = tree_of(&rt, LARGE, LARGE);
     assert!(rt; tree.terms(1_000_000_000_001).is_none());
-    Ok(())
 }
 
 // Claims and sums of which there is not one for each.

@@ -1,11 +1,9 @@
 // Levels, terms and what all claim, compared with what is found by going through all claims. The sums over claims are worked
 // out in the simple way.
-use crate::simple::{Chance, sums_over};
+use crate::simple::{Chance, MOST, sums_over};
 use level::{fill, terms_of, total};
 use std::process::Abort;
 use sums::Tree;
-
-const MOST: u64 = 18446744073709551615;
 
 // How many creditors there are, and of how many claims one is looked at. Of 1,024 and 1,025 the 1,024th is.
 const COUNTS: &[(usize, usize)] = &[
@@ -52,17 +50,20 @@ fn claims_by(chance: &mut Chance, least: u64, kinds: u64) -> [u64; 1025] {
 // The level and the terms are found, in as few steps as may be.
 fn assert_found(rt: &impl Abort, tree: &Tree<'_>, target: u64) {
     let found = tree.descend(target);
-    assert_eq!(rt; found.level, fill(tree.claims, target), "at {target}");
+    assert!(rt; found.level == fill(tree.claims, target), "at {target}");
     assert!(rt; found.steps <= 11);
     assert!(rt; 1 << found.steps <= 2 * tree.claims.len() + 1);
-    assert_eq!(rt; tree.terms(target), terms_of(target, tree.claims));
+    assert!(rt;
+        tree.terms(target) == terms_of(target, tree.claims),
+        "at {target}"
+    );
 }
 
 // Filled in are nothing, one cent, all that is claimed, and the most; for one claim of so many, all up to and with it, and
 // as much as fills each up to this one; and one cent less and more than these.
 fn assert_tree(rt: &impl Abort, tree: &Tree<'_>, of: usize) {
     let all = tree.total();
-    assert_eq!(rt; all, total(tree.claims));
+    assert!(rt; all == total(tree.claims));
     for target in [0, 1, all, all.saturating_add(1), MOST] {
         assert_found(rt, tree, target);
     }
@@ -81,6 +82,14 @@ fn assert_tree(rt: &impl Abort, tree: &Tree<'_>, of: usize) {
     }
 }
 
+// The same of the tree of claims in order.
+fn assert_claims(rt: &impl Abort, claims: &[u64], of: usize) {
+    assert!(rt; claims.len() <= 1025);
+    let sums = sums_over(claims);
+    let tree = Tree::new(claims, &sums[..claims.len()]).expect(rt, "no tree");
+    assert_tree(rt, &tree, of);
+}
+
 #[test]
 fn as_by_going_through_all(rt: HostRuntime) {
     let mut chance = Chance(1);
@@ -89,9 +98,7 @@ fn as_by_going_through_all(rt: HostRuntime) {
             assert!(rt; count <= 1025);
             let mut claims = claims_by(&mut chance, least, kinds);
             claims[..count].sort_unstable();
-            let sums = sums_over(&claims[..count]);
-            let tree = Tree::new(&claims[..count], &sums[..count]).expect(&rt, "no tree");
-            assert_tree(&rt, &tree, of);
+            assert_claims(&rt, &claims[..count], of);
         }
     }
 }

@@ -1,5 +1,15 @@
 // Sums worked out in the simple way, and claims that seem to come by chance.
 
+// The largest word.
+pub(crate) const MOST: u64 = 18446744073709551615;
+
+// Puts words behind the first so many of others.
+pub(crate) fn put(words: &mut [u64], at: usize, row: &[u64]) {
+    for (word, number) in words.iter_mut().skip(at).zip(row) {
+        *word = *number;
+    }
+}
+
 // The sum at each place: of the claims from place `j & (j + 1)` up to and with `j`, or the largest word where that is more.
 pub(crate) fn sums_over(claims: &[u64]) -> [u64; 1025] {
     let mut sums: [u64; 1025] = [0; 1025];

@@ -1,8 +1,7 @@
 // At how many nodes it is decided where the level lies.
-use crate::simple::sums_over;
+use crate::simple::{MOST, sums_over};
+use std::process::Abort;
 use sums::Tree;
-
-const MOST: u64 = 18446744073709551615;
 
 const SEVEN: &[u64] = &[10, 20, 30, 40, 50, 60, 70];
 
@@ -44,13 +43,18 @@ const STEPS: &[(&[u64], u64, u32)] = &[
     (&[1, 2, 3, 4, 5, 6, 7, 8], 37, 1),
 ];
 
+// So many steps are taken.
+fn assert_steps(rt: &impl Abort, claims: &[u64], target: u64, steps: u32) {
+    assert!(rt; claims.len() <= 1025);
+    let sums = sums_over(claims);
+    let tree = Tree::new(claims, &sums[..claims.len()]).expect(rt, "no tree");
+    assert!(rt; tree.descend(target).steps == steps, "at {target}");
+}
+
 #[test]
 fn steps_taken(rt: HostRuntime) {
     for &(claims, target, steps) in STEPS {
-        assert!(rt; claims.len() <= 1025);
-        let sums = sums_over(claims);
-        let tree = Tree::new(claims, &sums[..claims.len()]).expect(&rt, "no tree");
-        assert_eq!(rt; tree.descend(target).steps, steps, "at {target}");
+        assert_steps(&rt, claims, target, steps);
     }
 }
 
@@ -81,11 +85,9 @@ fn counted() -> [u64; 1025] {
 #[test]
 fn steps_taken_among_many(rt: HostRuntime) {
     let claims = counted();
-    let sums = sums_over(&claims);
     for &(count, target, steps) in OF_MANY {
         assert!(rt; count <= 1025);
-        let tree = Tree::new(&claims[..count], &sums[..count]).expect(&rt, "no tree");
-        assert_eq!(rt; tree.descend(target).steps, steps, "at {target}");
+        assert_steps(&rt, &claims[..count], target, steps);
     }
 }
 
@@ -108,7 +110,17 @@ const AT_MOST: &[(usize, u32)] = &[
     (1025, 11),
 ];
 
-// Whatever is filled in: 600 numbers, from none to more than all that is claimed.
+// The most steps that are taken, whatever is filled in: 600 numbers, from none to more than all that is claimed.
+fn most_steps(tree: &Tree<'_>) -> u32 {
+    let count = tree.claims.len() as u64;
+    let part = (count.wrapping_mul(count) / 1000).wrapping_add(1);
+    let mut most = 0;
+    for i in 0..600u64 {
+        most = tree.descend(i.wrapping_mul(part)).steps.max(most);
+    }
+    most
+}
+
 #[test]
 fn steps_at_most(rt: HostRuntime) {
     let claims = counted();
@@ -116,11 +128,6 @@ fn steps_at_most(rt: HostRuntime) {
     for &(count, steps) in AT_MOST {
         assert!(rt; count <= 1025);
         let tree = Tree::new(&claims[..count], &sums[..count]).expect(&rt, "no tree");
-        let part = (count * count / 1000 + 1) as u64;
-        let mut most = 0;
-        for i in 0..600 {
-            most = tree.descend(i * part).steps.max(most);
-        }
-        assert_eq!(rt; most, steps, "of {count}");
+        assert!(rt; most_steps(&tree) == steps, "of {count}");
     }
 }
