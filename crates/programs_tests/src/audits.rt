@@ -1,5 +1,4 @@
 // Texts of claims and shares, and what an audit finds of them.
-use crate::common::{Numbers, say};
 use auditing::Finding::{self, ClaimsMisfit, Line, Right, SharesMisfit, TooMany, Wrong};
 use auditing::audit;
 use shares::Fault::{Alone, NoParts, Pair, Unpaired};
@@ -238,114 +237,28 @@ const MANY: &[(Counted, Finding, &[u8])] = &[
 
 const TOO_MANY: &[u8] = b"line 1: more than 64 claims";
 
-fn counted(heap: Global, counted: Counted) -> Result<String, AllocError> {
+// Puts the same behind a text so many times.
+fn put(text: &mut String, what: &str, times: usize) -> Result<(), AllocError> {
+    for _ in 0..times {
+        text.push_str(what)?;
+    }
+    Ok(())
+}
+
+fn count(text: &mut String, counted: Counted) -> Result<(), AllocError> {
     let (claims, middle, shares, end) = counted;
-    let mut text = "2 ".repeat(heap, claims)?;
+    put(text, "2 ", claims)?;
     text.push_str(middle)?;
-    text.push_str(&"1 ".repeat(heap, shares)?)?;
-    text.push_str(end)?;
-    Ok(text)
+    put(text, "1 ", shares)?;
+    text.push_str(end)
 }
 
 #[test]
 fn many_claims(rt: HostRuntime) -> Result<(), Fail> {
     for &(how_many, finding, printed) in MANY {
-        let text = counted(rt.alloc(), how_many)?;
+        let mut text = String::new(rt.alloc());
+        count(&mut text, how_many)?;
         assert_audit(&rt, rt.alloc(), text.as_bytes(), (finding, printed))?;
     }
-    Ok(())
-}
-
-// What a creditor claims in parts of a cent, and its share in these.
-type Part = (u64, u64);
-
-// Up to what the lower claims, two have the same. Up to what the higher claims, the lower has half of its claim. Up to what
-// they claim together, they lose the same.
-fn agree(one: Part, another: Part) -> bool {
-    let (lower, higher) = if one.0 <= another.0 {
-        (one, another)
-    } else {
-        (another, one)
-    };
-    let both = lower.1.wrapping_add(higher.1);
-    if both <= lower.0 {
-        lower.1 == higher.1
-    } else if both <= higher.0 {
-        lower.1.wrapping_mul(2) == lower.0
-    } else {
-        both - higher.0 <= lower.0
-            && lower.0.wrapping_sub(lower.1) == higher.0.wrapping_sub(higher.1)
-    }
-}
-
-fn wanted(parts: &[Part]) -> Finding {
-    for (i, one) in parts.iter().enumerate() {
-        for (j, another) in parts.iter().enumerate() {
-            if i < j && !agree(*one, *another) {
-                return Wrong(Pair(i, j));
-            }
-        }
-    }
-    match parts {
-        [(claim, share)] if share > claim => Wrong(Alone),
-        _ => Right,
-    }
-}
-
-// Up to seven creditors: each gets half of its claim up to a level, or loses as much. Half a cent has so many parts.
-fn dealt(heap: Global, random: &mut Numbers, half: u64) -> Result<Vec<Part>, AllocError> {
-    let mut parts = Vec::new(heap);
-    let level = random.any_size() >> 12;
-    let gains = random.below(2) == 0;
-    for _ in 0..random.below(8) {
-        let claimed = half.wrapping_mul(random.any_size() >> 14);
-        let all = claimed.wrapping_mul(2);
-        let filled = claimed.min(level);
-        let share = if gains {
-            filled
-        } else {
-            all.wrapping_sub(filled)
-        };
-        parts.push((all, share))?;
-    }
-    Ok(parts)
-}
-
-// These creditors with their shares, in so many parts of a cent.
-fn written(heap: Global, d: u64, parts: &[Part]) -> Result<String, AllocError> {
-    let mut text = String::new(heap);
-    for (claimed, _) in parts {
-        say(&mut text, claimed.checked_div(d).unwrap_or(0), " ")?;
-    }
-    text.push_str("\nd ")?;
-    say(&mut text, d, ":")?;
-    for (_, share) in parts {
-        say(&mut text, *share, " ")?;
-    }
-    Ok(text)
-}
-
-// Every other time a share is one part more or less.
-#[test]
-fn the_same_two_by_two(rt: HostRuntime) -> Result<(), Fail> {
-    let heap = rt.alloc();
-    let mut random = Numbers(2);
-    let mut wrong = 0usize;
-    for i in 0..400 {
-        let half = random.below(5).wrapping_add(1);
-        let mut parts = dealt(heap, &mut random, half)?;
-        let place = random.below(parts.len() as u64) as usize;
-        if let Some(part) = parts.get_mut(place)
-            && i % 2 == 1
-        {
-            part.1 ^= 1;
-        }
-        let text = written(heap, half.wrapping_mul(2), &parts)?;
-        let found = audit(heap, text.as_bytes())?;
-        assert!(rt; found == wanted(&parts), "{text}");
-        assert!(rt; i % 2 == 1 || found == Right, "{text}");
-        wrong = wrong.wrapping_add(usize::from(found != Right));
-    }
-    assert!(rt; wrong > 100);
     Ok(())
 }

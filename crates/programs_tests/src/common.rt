@@ -47,10 +47,10 @@ pub(crate) fn assert_spaced(
 pub(crate) fn assert_shown(
     rt: &impl Abort,
     heap: Global,
-    answer: &Answer<Vec<u64>>,
+    answer: Answer<Vec<u64>>,
     want: &[u8],
 ) -> Result<(), AllocError> {
-    let printed = Shown(answer).to_string(heap)?;
+    let printed = Shown(&answer).to_string(heap)?;
     assert!(rt; printed.as_bytes() == want, "{printed}");
     Ok(())
 }

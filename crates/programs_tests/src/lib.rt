@@ -6,6 +6,8 @@ mod audits;
 #[cfg(test)]
 mod common;
 #[cfg(test)]
+mod dealt;
+#[cfg(test)]
 mod lines;
 #[cfg(test)]
 mod printed;

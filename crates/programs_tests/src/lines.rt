@@ -180,17 +180,31 @@ fn shares(rt: HostRuntime) {
 }
 
 // Up to 70 numbers, of any size.
-fn list_of(heap: Global, random: &mut Numbers) -> Result<Vec<u64>, AllocError> {
-    let mut list = Vec::new(heap);
+fn fill(list: &mut Vec<u64>, random: &mut Numbers) -> Result<(), AllocError> {
     for _ in 0..random.below(71) {
         list.push(random.any_size())?;
     }
-    Ok(list)
+    Ok(())
 }
 
-// Shares in these parts of a cent, as they are printed.
-fn shown(heap: Global, parts: u64, shares: &[u64]) -> Result<String, AllocError> {
-    Shown(&Answer::Parts(parts, shares.to_vec(heap)?)).to_string(heap)
+// A list is read as it is printed.
+fn assert_spaced(rt: &impl Abort, heap: Global, list: &[u64]) -> Result<(), AllocError> {
+    let line = Spaced(list).to_string(heap)?;
+    assert_numbers(rt, heap, line.as_bytes(), Ok(list));
+    Ok(())
+}
+
+// Shares in these parts of a cent are read as they are printed.
+fn assert_shown(
+    rt: &impl Abort,
+    heap: Global,
+    parts: u64,
+    shares: &[u64],
+) -> Result<(), AllocError> {
+    let answer = Answer::Parts(parts, shares.to_vec(heap)?);
+    let line = Shown(&answer).to_string(heap)?;
+    assert_shares(rt, heap, line.as_bytes(), Ok((parts, shares)));
+    Ok(())
 }
 
 #[test]
@@ -198,12 +212,10 @@ fn read_as_printed(rt: HostRuntime) -> Result<(), Fail> {
     let heap = rt.alloc();
     let mut random = Numbers(1);
     for _ in 0..300 {
-        let list = list_of(heap, &mut random)?;
-        let line = Spaced(&list).to_string(heap)?;
-        assert_numbers(&rt, heap, line.as_bytes(), Ok(&list));
-        let parts = random.any_size();
-        let line = shown(heap, parts, &list)?;
-        assert_shares(&rt, heap, line.as_bytes(), Ok((parts, &list)));
+        let mut list = Vec::new(heap);
+        fill(&mut list, &mut random)?;
+        assert_spaced(&rt, heap, &list)?;
+        assert_shown(&rt, heap, random.any_size(), &list)?;
     }
     Ok(())
 }

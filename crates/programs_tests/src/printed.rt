@@ -29,7 +29,7 @@ const NUMBERS: &[(u64, &[u8])] = &[
 #[test]
 fn numbers(rt: HostRuntime) -> Result<(), Fail> {
     for &(n, text) in NUMBERS {
-        assert_shown(&rt, rt.alloc(), &Answer::Number(n), text)?;
+        assert_shown(&rt, rt.alloc(), Answer::Number(n), text)?;
         assert_spaced(&rt, rt.alloc(), &[n], text)?;
     }
     Ok(())
@@ -61,8 +61,8 @@ fn lists(rt: HostRuntime) -> Result<(), Fail> {
     let heap = rt.alloc();
     for &(list, cents, d, shares) in LISTS {
         assert_spaced(&rt, heap, list, cents)?;
-        assert_shown(&rt, heap, &Answer::Amounts(list.to_vec(heap)?), cents)?;
-        assert_shown(&rt, heap, &Answer::Parts(d, list.to_vec(heap)?), shares)?;
+        assert_shown(&rt, heap, Answer::Amounts(list.to_vec(heap)?), cents)?;
+        assert_shown(&rt, heap, Answer::Parts(d, list.to_vec(heap)?), shares)?;
     }
     Ok(())
 }
@@ -95,7 +95,7 @@ const REFUSED: &[(Refusal, Place, &[u8])] = &[
 fn refusals(rt: HostRuntime) -> Result<(), Fail> {
     for &(why, place, text) in REFUSED {
         let refused = Answer::Refused(TurnedAway { why, place });
-        assert_shown(&rt, rt.alloc(), &refused, text)?;
+        assert_shown(&rt, rt.alloc(), refused, text)?;
     }
     Ok(())
 }

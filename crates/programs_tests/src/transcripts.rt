@@ -16,6 +16,13 @@ fn put(file: &mut Vec<u8>, call: Call) -> Result<(), Fail> {
     Ok(())
 }
 
+// A file is answered so.
+fn assert_text(rt: &impl Abort, heap: Global, file: &[u8], want: &[u8]) -> Result<(), AllocError> {
+    let text = transcript(heap, file)?;
+    assert!(rt; text.as_bytes() == want, "{text}");
+    Ok(())
+}
+
 // Calls, and bytes behind them, are answered so.
 fn assert_answered(
     rt: &impl Abort,
@@ -29,8 +36,7 @@ fn assert_answered(
         put(&mut file, *call)?;
     }
     file.extend_from_slice(behind)?;
-    let text = transcript(heap, &file)?;
-    assert!(rt; text.as_bytes() == want, "{text}");
+    assert_text(rt, heap, &file, want)?;
     Ok(())
 }
 
@@ -205,57 +211,65 @@ const LONG: &[&[u8]] = &[
     b"\x02\x03\x03\x03\x03\x03\x03\x03\x03",
 ];
 
-// Each is cut short at each length: the place is behind the last byte.
+// Cut short at a length, one is refused behind its last byte.
+fn assert_cut(rt: &impl Abort, heap: Global, call: &[u8], len: usize) -> Result<(), Fail> {
+    let mut want = String::new(heap);
+    say(&mut want, 7, "\nrefused 1 at ")?;
+    say(&mut want, len as u64, "\n")?;
+    assert!(rt; len <= call.len());
+    assert_answered(rt, heap, &[Come(7)], &call[..len], want.as_bytes())
+}
+
+// Each is cut short at each length.
 #[test]
 fn cut_short(rt: HostRuntime) -> Result<(), Fail> {
-    let heap = rt.alloc();
     for call in LONG {
         for len in 1..call.len() {
-            let mut want = String::from_str(heap, "7\nrefused 1 at ")?;
-            say(&mut want, len as u64, "\n")?;
-            assert_answered(&rt, heap, &[Come(7)], &call[..len], want.as_bytes())?;
+            assert_cut(&rt, rt.alloc(), call, len)?;
         }
     }
     Ok(())
 }
 
 // As many claims as there may be, and one more; as many cents as may be there, as many more as may come at once, and one.
-fn full_file(heap: Global) -> Result<Vec<u8>, Fail> {
-    let mut file = Vec::new(heap);
+fn fill_file(file: &mut Vec<u8>) -> Result<(), Fail> {
     for _ in 0..65 {
-        put(&mut file, Claim(5))?;
+        put(file, Claim(5))?;
     }
     for _ in 0..1001 {
-        put(&mut file, Come(MUCH))?;
+        put(file, Come(MUCH))?;
     }
     for call in [Come(1), Claim(0), Cents, Come(0)] {
-        put(&mut file, call)?;
+        put(file, call)?;
     }
-    Ok(file)
+    Ok(())
 }
 
 // What is turned away changes nothing: each claim is paid.
-fn full_text(heap: Global) -> Result<String, AllocError> {
-    let mut text = String::new(heap);
+fn fill_text(text: &mut String) -> Result<(), AllocError> {
     for i in 0..64 {
-        say(&mut text, i, "\n")?;
+        say(text, i, "\n")?;
     }
     text.push_str("refused 5 at 0\n")?;
     for i in 1..=1000 {
-        say(&mut text, i * MUCH, "\n")?;
+        say(text, i * MUCH, "\n")?;
     }
     text.push_str("refused 5 at 0\nrefused 5 at 0\nrefused 5 at 0\n5")?;
-    text.push_str(&" 5".repeat(heap, 63)?)?;
-    text.push_str("\n1000000000000\n")?;
-    Ok(text)
+    for _ in 0..63 {
+        text.push_str(" 5")?;
+    }
+    text.push_str("\n1000000000000\n")
 }
 
 #[test]
 fn no_room(rt: HostRuntime) -> Result<(), Fail> {
     let heap = rt.alloc();
-    let file = full_file(heap)?;
-    let text = full_text(heap)?;
-    assert_answered(&rt, heap, &[], &file, text.as_bytes())
+    let mut file = Vec::new(heap);
+    fill_file(&mut file)?;
+    let mut text = String::new(heap);
+    fill_text(&mut text)?;
+    assert_text(&rt, heap, &file, text.as_bytes())?;
+    Ok(())
 }
 
 // How many times something comes, a claim is changed, and shares are asked for; and how much comes.
@@ -269,48 +283,55 @@ fn claimed(place: u64) -> u64 {
 }
 
 // 20,000 calls with 64 claims. In the end each claim is a million and its place: 64,002,016 in all.
-fn long_file(heap: Global) -> Result<Vec<u8>, Fail> {
-    let mut file = Vec::new(heap);
+fn lengthen(file: &mut Vec<u8>) -> Result<(), Fail> {
     for i in 0..64 {
-        put(&mut file, Claim(i))?;
+        put(file, Claim(i))?;
     }
     for i in 0..TIMES {
-        put(&mut file, Come(COMES))?;
+        put(file, Come(COMES))?;
         let place = i % 64;
         let cents = if i < TIMES - 64 {
             i * i
         } else {
             claimed(place)
         };
-        put(&mut file, Prove(place as u32, cents))?;
-        put(&mut file, Shares)?;
+        put(file, Prove(place as u32, cents))?;
+        put(file, Shares)?;
     }
-    put(&mut file, Cents)?;
-    Ok(file)
+    put(file, Cents)
 }
 
 // The claims come to 4,190,371 cents more than is there. All lose a 64th of that, 65,474 cents and 35 64ths. So each share
 // rounded down is the claim less 65,475, and 29 cents are left, for the first: all lack as much.
-fn last_lines(heap: Global) -> Result<String, AllocError> {
-    let mut shares = String::from_str(heap, "\nd 128: ")?;
-    let mut cents = String::new(heap);
+fn end_text(text: &mut String) -> Result<(), AllocError> {
+    text.push_str("\nd 128: ")?;
     for i in 0..64 {
-        let end = if i < 63 { " " } else { "\n" };
         let in_parts = claimed(i).wrapping_mul(128);
-        say(&mut shares, in_parts.wrapping_sub(2 * 4_190_371), end)?;
-        let amount = claimed(i).wrapping_sub(65_475);
-        say(&mut cents, amount.wrapping_add(u64::from(i < 29)), end)?;
+        let end = if i < 63 { " " } else { "\n" };
+        say(text, in_parts.wrapping_sub(2 * 4_190_371), end)?;
     }
-    shares.push_str(&cents)?;
-    Ok(shares)
+    for i in 0..64 {
+        let amount = claimed(i).wrapping_sub(65_475);
+        let end = if i < 63 { " " } else { "\n" };
+        say(text, amount.wrapping_add(u64::from(i < 29)), end)?;
+    }
+    Ok(())
+}
+
+// A text has so many lines, and ends so.
+fn assert_ends(rt: &impl Abort, text: &str, lines: usize, end: &str) {
+    assert_eq!(rt; text.lines().count(), lines);
+    assert!(rt; text.as_bytes().ends_with(end.as_bytes()), "{end}");
 }
 
 #[test]
 fn many_calls(rt: HostRuntime) -> Result<(), Fail> {
     let heap = rt.alloc();
-    let text = transcript(heap, &long_file(heap)?)?;
-    assert_eq!(rt; text.lines().count(), 20_000);
-    let last = last_lines(heap)?;
-    assert!(rt; text.as_bytes().ends_with(last.as_bytes()), "{last}");
+    let mut file = Vec::new(heap);
+    lengthen(&mut file)?;
+    let mut end = String::new(heap);
+    end_text(&mut end)?;
+    let text = transcript(heap, &file)?;
+    assert_ends(&rt, &text, 20_000, &end);
     Ok(())
 }
