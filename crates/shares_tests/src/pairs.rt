@@ -34,13 +34,16 @@ const RIGHT: &[(u64, &[u64], &[u64])] = &[
 #[test]
 fn right_shares_pass(rt: HostRuntime) {
     for &(d, claims, shares) in RIGHT {
-        assert_eq!(rt; check(d, claims, shares), Ok(()));
+        assert!(rt; check(d, claims, shares).is_ok(), "{shares:?}");
     }
 }
 
+// The parts of a cent, claims, shares, and what is wrong.
+type Wrong = (u64, &'static [u64], &'static [u64], Fault);
+
 // Equal claims with different shares; the sum put right at the last creditor; more than both claim, divided as two do;
 // in proportion to what is claimed, and all alike; the later pairs only; a lone creditor above its claim; the largest numbers.
-const UNFAIR: &[(u64, &[u64], &[u64], Fault)] = &[
+const UNFAIR: &[Wrong] = &[
     (1, &[10, 10], &[2, 3], Fault::Pair(0, 1)),
     (1, &[10, 10, 10], &[1, 1, 3], Fault::Pair(0, 2)),
     (1, &[100, 200, 300], &[33, 33, 34], Fault::Pair(0, 2)),
@@ -64,15 +67,9 @@ const UNFAIR: &[(u64, &[u64], &[u64], Fault)] = &[
     (MOST, &[0, MOST], &[MOST, MOST], Fault::Pair(0, 1)),
 ];
 
-#[test]
-fn wrong_shares_are_refused_where_they_are_wrong(rt: HostRuntime) {
-    for &(d, claims, shares, fault) in UNFAIR {
-        assert_eq!(rt; check(d, claims, shares), Err(fault));
-    }
-}
-
-// One share too few or too many, also where a cent has no parts; and no parts, also where two do not divide as two do.
-const SHAPELESS: &[(u64, &[u64], &[u64], Fault)] = &[
+// What is refused first: one share too few or too many, also where a cent has no parts; and no parts, also where two do not
+// divide as two do.
+const SHAPELESS: &[Wrong] = &[
     (1, &[1, 2], &[1], Fault::Unpaired),
     (1, &[1], &[1, 2], Fault::Unpaired),
     (1, &[], &[0], Fault::Unpaired),
@@ -84,8 +81,10 @@ const SHAPELESS: &[(u64, &[u64], &[u64], Fault)] = &[
 ];
 
 #[test]
-fn what_are_no_shares_is_refused_first(rt: HostRuntime) {
-    for &(d, claims, shares, fault) in SHAPELESS {
-        assert_eq!(rt; check(d, claims, shares), Err(fault));
+fn wrong_shares_are_refused_where_they_are_wrong(rt: HostRuntime) {
+    for table in [UNFAIR, SHAPELESS] {
+        for &(d, claims, shares, fault) in table {
+            assert!(rt; check(d, claims, shares) == Err(fault), "{shares:?}");
+        }
     }
 }

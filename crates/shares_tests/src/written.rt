@@ -1,8 +1,8 @@
 // Estates with their shares, worked out by hand: as words and as the bytes of an answer.
 use level::{Fraction, Side, Terms, terms_of};
 use shares::{Shares, check, share};
+use std::alloc::Global;
 use std::process::Abort;
-use std::test::Fail;
 use wire::{Answer, Refusal};
 
 const MOST: u64 = 18446744073709551615;
@@ -27,75 +27,80 @@ const DIVIDED: &[Estate] = &[
     (3, &[0, 8, 0], &[0, 0, 8], 2, &[0, 6, 0]),
 ];
 
-#[test]
-fn shares_as_words(rt: HostRuntime) -> Result<(), Fail> {
-    for &(there, claims, in_order, d, shares) in DIVIDED {
-        let terms = terms_of(there, in_order).ok_or("no terms")?;
-        assert_eq!(rt; terms.parts(), d);
-        let mut out = [170; 6];
-        assert_eq!(rt; Shares { terms, claims }.write(&mut out), Ok(shares.len()));
-        assert!(rt; shares.len() <= 6);
-        assert!(rt; &out[..shares.len()] == shares);
-        assert!(rt; out[shares.len()..] == [170; 6][shares.len()..]);
-        assert_eq!(rt; check(d, claims, shares), Ok(()));
+// Words begin with these, and those behind stay.
+fn assert_written(rt: &impl Abort, out: &[u64], words: &[u64]) {
+    for (i, word) in out.iter().enumerate() {
+        assert!(rt; *word == words.get(i).copied().unwrap_or(170), "at {i}");
     }
-    Ok(())
 }
 
 #[test]
-fn shares_as_bytes(rt: HostRuntime) -> Result<(), Fail> {
+fn shares_as_words(rt: HostRuntime) {
     for &(there, claims, in_order, d, shares) in DIVIDED {
-        let terms = terms_of(there, in_order).ok_or("no terms")?;
-        let mut out = [170u8; 56];
-        let len = Shares { terms, claims }.answer().encode(&mut out)?;
-        let heap = rt.alloc();
-        assert_eq!(rt;
-            Answer::decode(heap, &out[..len]),
-            Ok(Answer::Parts(d, shares.to_vec(heap)?))
-        );
+        let terms = terms_of(there, in_order).expect(&rt, "no terms");
+        let mut out = [170; 6];
+        let written = Shares { terms, claims }.write(&mut out);
+        assert!(rt; terms.parts() == d && written == Ok(shares.len()));
+        assert_written(&rt, &out, shares);
+        assert!(rt; shares.len() <= 6 && check(d, claims, shares).is_ok());
     }
-    Ok(())
+}
+
+// A row is read as these parts and shares.
+fn assert_parts(rt: &impl Abort, heap: Global, row: &[u8], d: u64, shares: &[u64]) {
+    let met = match &Answer::decode(heap, row) {
+        Ok(Answer::Parts(parts, found)) => *parts == d && found.as_slice() == shares,
+        _ => false,
+    };
+    assert!(rt; met, "{shares:?}");
+}
+
+#[test]
+fn shares_as_bytes(rt: HostRuntime) {
+    for &(there, claims, in_order, d, shares) in DIVIDED {
+        let terms = terms_of(there, in_order).expect(&rt, "no terms");
+        let mut out = [170u8; 56];
+        let answer = Shares { terms, claims }.answer();
+        let len = answer.encode(&mut out).ok().expect(&rt, "too long");
+        assert_parts(&rt, rt.alloc(), &out[..len], d, shares);
+    }
 }
 
 // The answer to the call for shares of 400 cents among 300, 100 and 200: its kind, 4 parts, 3 shares: 900, 200 and 500.
 const ROW: &[u8] = b"\x02\x04\0\0\0\0\0\0\0\x03\0\0\0\0\0\0\0\
     \x84\x03\0\0\0\0\0\0\xc8\0\0\0\0\0\0\0\xf4\x01\0\0\0\0\0\0";
 
-// The answer has these bytes, what lies behind stays, and where a byte is wanting nothing is written.
-fn assert_row(rt: &impl Abort, shares: Shares<'_>, row: &[u8]) {
-    let len = row.len();
-    assert!(rt; 0 < len && len <= 48);
-    let mut out = [170u8; 48];
-    assert_eq!(rt; shares.answer().encode(&mut out), Ok(len));
-    assert!(rt; &out[0..len] == row);
-    assert!(rt; out[len..48] == [170u8; 48][len..48]);
-    let mut short = [170u8; 48];
-    assert_eq!(rt;
-        shares.answer().encode(&mut short[0..len - 1]),
-        Err(Refusal::NotLent)
-    );
-    assert!(rt; short == [170u8; 48]);
+// Bytes begin with a row, and those behind stay.
+fn assert_row(rt: &impl Abort, out: &[u8], row: &[u8]) {
+    for (i, byte) in out.iter().enumerate() {
+        assert!(rt; *byte == row.get(i).copied().unwrap_or(170), "at {i}");
+    }
 }
 
+// Where a byte is wanting nothing is written.
 #[test]
-fn bytes_of_an_answer(rt: HostRuntime) -> Result<(), Fail> {
-    let terms = terms_of(400, &[100, 200, 300]).ok_or("no terms")?;
+fn bytes_of_an_answer(rt: HostRuntime) {
+    let terms = terms_of(400, &[100, 200, 300]).expect(&rt, "no terms");
     let claims = &[300, 100, 200];
-    assert_row(&rt, Shares { terms, claims }, ROW);
-    Ok(())
+    let answer = Shares { terms, claims }.answer();
+    let mut out = [170u8; 48];
+    assert!(rt; answer.encode(&mut out) == Ok(ROW.len()));
+    assert_row(&rt, &out, ROW);
+    let mut short = [170u8; 40];
+    assert!(rt; answer.encode(&mut short) == Err(Refusal::NotLent));
+    assert_row(&rt, &short, &[]);
 }
 
 #[test]
-fn too_few_words(rt: HostRuntime) -> Result<(), Fail> {
-    let terms = terms_of(100, &[100, 200, 300]).ok_or("no terms")?;
+fn too_few_words(rt: HostRuntime) {
+    let terms = terms_of(100, &[100, 200, 300]).expect(&rt, "no terms");
     let shares = Shares {
         terms,
         claims: &[100, 200, 300],
     };
     let mut out = [170; 2];
-    assert_eq!(rt; shares.write(&mut out), Err(Refusal::NotLent));
-    assert!(rt; out == [170; 2]);
-    Ok(())
+    assert!(rt; shares.write(&mut out) == Err(Refusal::NotLent));
+    assert_written(&rt, &out, &[]);
 }
 
 // Sides, what is spread and among how many, a claim, and what it gets of terms that nobody found. The last of each side are
@@ -118,6 +123,6 @@ fn shares_of_made_up_terms(rt: HostRuntime) {
             numerator,
             denominator,
         };
-        assert_eq!(rt; share(Terms { side, level }, claim), parts);
+        assert!(rt; share(Terms { side, level }, claim) == parts, "{claim}");
     }
 }
