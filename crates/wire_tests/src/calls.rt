@@ -1,4 +1,6 @@
 // Calls and their rows, written out by hand.
+use crate::answers::assert_row;
+use std::process::Abort;
 use wire::{Call, Calls, Garbled, Refusal};
 
 // Calls, and the bytes of each.
@@ -27,23 +29,25 @@ const GOOD: &[(Call, &[u8])] = &[
 #[test]
 fn rows_that_are_calls(rt: HostRuntime) {
     for &(call, row) in GOOD {
-        assert_eq!(rt; Call::decode(row), Ok(call));
+        assert!(rt; Call::decode(row) == Ok(call), "{row:?}");
     }
 }
 
 // A call is written at the start, and what lies behind stays; a byte less than it takes is too few.
+fn assert_call(rt: &impl Abort, call: Call, row: &[u8]) {
+    let len = row.len();
+    assert!(rt; len >= 1 && len <= 20);
+    let mut out = [170u8; 20];
+    assert!(rt; call.encode(&mut out[..len - 1]) == Err(Refusal::NotLent));
+    assert_row(rt, &out, &[]);
+    assert!(rt; call.encode(&mut out) == Ok(len));
+    assert_row(rt, &out, row);
+}
+
 #[test]
 fn calls_that_are_rows(rt: HostRuntime) {
     for &(call, row) in GOOD {
-        let len = row.len();
-        assert!(rt; len >= 1 && len <= 20);
-        let mut out = [170u8; 20];
-        assert_eq!(rt; call.encode(&mut out), Ok(len));
-        assert!(rt; &out[0..len] == row);
-        assert!(rt; out[len..20] == [170u8; 20][len..20]);
-        let mut short = [170u8; 20];
-        assert_eq!(rt; call.encode(&mut short[0..len - 1]), Err(Refusal::NotLent));
-        assert!(rt; short == [170u8; 20]);
+        assert_call(&rt, call, row);
     }
 }
 
@@ -73,7 +77,10 @@ fn rows_that_are_none(rt: HostRuntime) {
         let mut row = [0u8; 18];
         row[0] = kind;
         assert!(rt; len <= 18);
-        assert_eq!(rt; Call::decode(&row[0..len]), Err(Garbled(place)));
+        assert!(rt;
+            Call::decode(&row[0..len]) == Err(Garbled(place)),
+            "{kind} {len}"
+        );
     }
 }
 
@@ -81,9 +88,9 @@ fn rows_that_are_none(rt: HostRuntime) {
 #[test]
 fn places_past_32_bits(rt: HostRuntime) {
     let first = b"\x01\0\0\0\0\x01\0\0\0\x05\0\0\0\0\0\0\0";
-    assert_eq!(rt; Call::decode(first), Ok(Call::Prove(4294967295, 5)));
+    assert!(rt; Call::decode(first) == Ok(Call::Prove(4294967295, 5)));
     let last = b"\x01\xff\xff\xff\xff\xff\xff\xff\xff\x05\0\0\0\0\0\0\0";
-    assert_eq!(rt; Call::decode(last), Ok(Call::Prove(4294967295, 5)));
+    assert!(rt; Call::decode(last) == Ok(Call::Prove(4294967295, 5)));
 }
 
 // Calls that follow each other with nothing between. The last is cut short.
@@ -97,21 +104,29 @@ const EACH: &[(&[u8], Result<Call, Garbled>)] = &[
     (b"\x00\x01", Err(Garbled(2))),
 ];
 
+// The first is split off as this one, and read so. Gives what is behind it.
+fn behind<'a>(
+    rt: &impl Abort,
+    rows: &'a [u8],
+    row: &[u8],
+    call: Result<Call, Garbled>,
+) -> &'a [u8] {
+    let (first, behind) = Call::split_first(rows);
+    assert!(rt; first == row);
+    assert!(rt; Call::decode(first) == call, "{row:?}");
+    behind
+}
+
 // One after the other is split off, until none is left. Behind an unknown one nothing can be read.
 #[test]
 fn calls_one_by_one(rt: HostRuntime) {
     let mut rest = IN_A_ROW;
     for &(row, call) in EACH {
-        let (first, behind) = Call::split_first(rest);
-        assert_eq!(rt; first, row);
-        assert_eq!(rt; Call::decode(first), call);
-        rest = behind;
+        rest = behind(&rt, rest, row, call);
     }
     assert!(rt; rest.is_empty());
     let all: &[u8] = b"\x09\x03\x03";
-    let (unknown, rest) = Call::split_first(all);
-    assert_eq!(rt; unknown, all);
-    assert_eq!(rt; Call::decode(unknown), Err(Garbled(0)));
+    let rest = behind(&rt, all, all, Err(Garbled(0)));
     assert!(rt; rest.is_empty());
 }
 
@@ -120,8 +135,8 @@ fn calls_one_by_one(rt: HostRuntime) {
 fn calls_in_turn(rt: HostRuntime) {
     let mut calls = Calls(IN_A_ROW);
     for &(row, call) in EACH {
-        assert_eq!(rt; calls.next(), Some(row));
-        assert_eq!(rt; Call::decode(row), call);
+        assert!(rt; calls.next() == Some(row));
+        assert!(rt; Call::decode(row) == call, "{row:?}");
     }
-    assert_eq!(rt; calls.next(), None);
+    assert!(rt; calls.next().is_none());
 }
