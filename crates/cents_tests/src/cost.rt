@@ -1,7 +1,6 @@
 // How often shares are looked at until it is known who has a cent more.
 use cents::Cents;
 use std::cell::Cell;
-use std::test::Fail;
 use wire::Numbers;
 
 // Shares that count how often one of them is looked at.
@@ -30,7 +29,7 @@ impl Numbers for Counted<'_> {
 const FEW: &[(u64, u64, u64, u64)] = &[(4, 8, 12, 1), (4, 3, 7, 3), (4, 3, 2, 5)];
 
 #[test]
-fn few_looks_where_few_amounts_are_lacked(rt: HostRuntime) -> Result<(), Fail> {
+fn few_looks_where_few_amounts_are_lacked(rt: HostRuntime) {
     for &(parts, first, other, looks) in FEW {
         let mut shares = [other; 1024];
         shares[..512].fill(first);
@@ -38,15 +37,14 @@ fn few_looks_where_few_amounts_are_lacked(rt: HostRuntime) -> Result<(), Fail> {
             shares: &shares,
             looks: &Cell::new(0),
         };
-        Cents::new(parts, counted)?;
+        assert!(rt; Cents::new(parts, counted).is_ok());
         assert!(rt; counted.looks.get() <= looks * 1024);
     }
-    Ok(())
 }
 
 // Each has a part less than the one before it, and all together lack one cent for each but the last.
 #[test]
-fn most_looks_where_all_lack_something_else(rt: HostRuntime) -> Result<(), Fail> {
+fn most_looks_where_all_lack_something_else(rt: HostRuntime) {
     let mut shares = [0; 1024];
     for (i, share) in shares.iter_mut().enumerate() {
         *share = 524_799 - i as u64;
@@ -55,7 +53,6 @@ fn most_looks_where_all_lack_something_else(rt: HostRuntime) -> Result<(), Fail>
         shares: &shares,
         looks: &Cell::new(0),
     };
-    Cents::new(524_800, counted)?;
+    assert!(rt; Cents::new(524_800, counted).is_ok());
     assert!(rt; counted.looks.get() <= (1 + 2 * 1023) * 1024);
-    Ok(())
 }

@@ -1,7 +1,7 @@
 // Shares handed in: their whole cents, and those that are refused.
 use crate::whole::{assert_words, stretch};
 use cents::{Cents, CentsError};
-use std::test::Fail;
+use std::process::Abort;
 
 const MOST: u64 = 18446744073709551615;
 
@@ -50,12 +50,17 @@ const ROUNDED: &[(u64, &[u64], &[u64])] = &[
     (MOST - 1, &[MOST, MOST, MOST - 3], &[1, 1, 1]),
 ];
 
+// Shares come to these cents.
+fn assert_cents(rt: &impl Abort, parts: u64, shares: &[u64], words: &[u64]) {
+    let cents = Cents::new(parts, shares).ok().expect(rt, "refused");
+    assert_words(rt, cents, words);
+}
+
 #[test]
-fn rounded_to_whole_cents(rt: HostRuntime) -> Result<(), Fail> {
+fn rounded_to_whole_cents(rt: HostRuntime) {
     for &(parts, shares, words) in ROUNDED {
-        assert_words(&rt, Cents::new(parts, shares)?, words);
+        assert_cents(&rt, parts, shares, words);
     }
-    Ok(())
 }
 
 // How many creditors, the parts of a cent, what each has, what those from one place to another
@@ -84,14 +89,13 @@ const ONE_EACH: &[(usize, u64, u64, u64, usize, usize)] = &[
 ];
 
 #[test]
-fn who_lack_most_have_a_cent_each(rt: HostRuntime) -> Result<(), Fail> {
+fn who_lack_most_have_a_cent_each(rt: HostRuntime) {
     for &(count, parts, share, other, from, to) in ONE_EACH {
         assert!(rt; count <= 1024);
         let shares = stretch(share, other, from, to);
         let words = stretch(0, 1, from, to);
-        assert_words(&rt, Cents::new(parts, &shares[..count])?, &words[..count]);
+        assert_cents(&rt, parts, &shares[..count], &words[..count]);
     }
-    Ok(())
 }
 
 // Of 1,024 creditors with 0, 1, 2, 0, 1, 2 and so on: the parts of a cent, and how many cents that
@@ -99,7 +103,7 @@ fn who_lack_most_have_a_cent_each(rt: HostRuntime) -> Result<(), Fail> {
 const THIRDS: &[(u64, usize)] = &[(3, 341), (11, 93), (33, 31), (341, 3), (1023, 1)];
 
 #[test]
-fn the_first_of_every_third_have_a_cent_each(rt: HostRuntime) -> Result<(), Fail> {
+fn the_first_of_every_third_have_a_cent_each(rt: HostRuntime) {
     for &(parts, cents) in THIRDS {
         let mut shares = [0; 1024];
         let mut words = [0; 1024];
@@ -107,24 +111,22 @@ fn the_first_of_every_third_have_a_cent_each(rt: HostRuntime) -> Result<(), Fail
             shares[i] = (i % 3) as u64;
             words[i] = u64::from(i % 3 == 2 && i / 3 < cents);
         }
-        assert_words(&rt, Cents::new(parts, &shares[..])?, &words);
+        assert_cents(&rt, parts, &shares[..], &words);
     }
-    Ok(())
 }
 
 // With 1,023 parts of a cent, and 0, 1, 2 up to 1,023 of them, there are 512 cents: one is a whole
 // share, and who lack most have the others. Down from 1,023 it is the same.
 #[test]
-fn each_of_many_lacks_something_else(rt: HostRuntime) -> Result<(), Fail> {
+fn each_of_many_lacks_something_else(rt: HostRuntime) {
     let mut up = [0; 1024];
     let mut down = [0; 1024];
     for i in 0..1024 {
         up[i] = i as u64;
         down[i] = 1023 - i as u64;
     }
-    assert_words(&rt, Cents::new(1023, &up[..])?, &stretch(0, 1, 512, 1024));
-    assert_words(&rt, Cents::new(1023, &down[..])?, &stretch(0, 1, 0, 512));
-    Ok(())
+    assert_cents(&rt, 1023, &up[..], &stretch(0, 1, 512, 1024));
+    assert_cents(&rt, 1023, &down[..], &stretch(0, 1, 0, 512));
 }
 
 // Parts of a cent, shares, and why they are refused: no parts, and what does not add up to whole
@@ -146,7 +148,7 @@ const REFUSED: &[(u64, &[u64], CentsError)] = &[
 #[test]
 fn refused_where_no_whole_cents_come(rt: HostRuntime) {
     for &(parts, shares, why) in REFUSED {
-        assert_eq!(rt; Cents::new(parts, shares).err(), Some(why));
+        assert!(rt; Cents::new(parts, shares).err() == Some(why));
     }
 }
 
@@ -163,6 +165,6 @@ const TOO_MANY: &[(u64, u64, CentsError)] = &[
 fn more_than_1024_shares_are_refused(rt: HostRuntime) {
     for &(parts, share, why) in TOO_MANY {
         let shares: &[u64] = &[share; 1025];
-        assert_eq!(rt; Cents::new(parts, shares).err(), Some(why));
+        assert!(rt; Cents::new(parts, shares).err() == Some(why));
     }
 }

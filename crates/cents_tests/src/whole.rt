@@ -2,8 +2,8 @@
 use cents::Cents;
 use level::terms_of;
 use shares::Shares;
+use std::alloc::Global;
 use std::process::Abort;
-use std::test::Fail;
 use wire::{Answer, Numbers, Refusal};
 
 // What is there, the claims as they came and in ascending order, and the cents. The shares are
@@ -40,39 +40,51 @@ const PAID: &[(u64, &[u64], &[u64], &[u64])] = &[
     (500, &[300, 100, 200], &[100, 200, 300], &[267, 67, 166]),
 ];
 
+// The cents of what is there, with the claims as they came and in ascending order.
+fn paid<'a>(rt: &impl Abort, there: u64, claims: &'a [u64], in_order: &[u64]) -> Cents<Shares<'a>> {
+    let terms = terms_of(there, in_order).expect(rt, "no terms");
+    let shares = Shares { terms, claims };
+    Cents::of(shares).ok().expect(rt, "no cents")
+}
+
+// Words begin with these, and those behind stay.
+fn assert_written(rt: &impl Abort, out: &[u64], words: &[u64]) {
+    for (i, word) in out.iter().enumerate() {
+        assert!(rt; *word == words.get(i).copied().unwrap_or(170), "at {i}");
+    }
+}
+
 // The cents are written as these words, and what lies behind them stays.
 pub(crate) fn assert_words<L: Numbers + Copy>(rt: &impl Abort, cents: Cents<L>, words: &[u64]) {
     let mut out = [170; 1025];
-    assert_eq!(rt; cents.write(&mut out), Ok(words.len()));
-    for (i, word) in out.iter().enumerate() {
-        assert_eq!(rt; *word, words.get(i).copied().unwrap_or(170), "at {i}");
-    }
+    assert!(rt; cents.write(&mut out) == Ok(words.len()));
+    assert_written(rt, &out, words);
 }
 
 #[test]
-fn cents_as_words(rt: HostRuntime) -> Result<(), Fail> {
+fn cents_as_words(rt: HostRuntime) {
     for &(there, claims, in_order, words) in PAID {
-        let terms = terms_of(there, in_order).ok_or("no terms")?;
-        assert_words(&rt, Cents::of(Shares { terms, claims })?, words);
+        assert_words(&rt, paid(&rt, there, claims, in_order), words);
     }
-    Ok(())
+}
+
+// A row is read as these amounts.
+fn assert_amounts(rt: &impl Abort, heap: Global, row: &[u8], cents: &[u64]) {
+    let met = match &Answer::decode(heap, row) {
+        Ok(Answer::Amounts(found)) => found.as_slice() == cents,
+        _ => false,
+    };
+    assert!(rt; met, "{cents:?}");
 }
 
 #[test]
-fn cents_as_bytes(rt: HostRuntime) -> Result<(), Fail> {
+fn cents_as_bytes(rt: HostRuntime) {
     for &(there, claims, in_order, cents) in PAID {
-        let terms = terms_of(there, in_order).ok_or("no terms")?;
         let mut out = [170u8; 48];
-        let len = Cents::of(Shares { terms, claims })?
-            .answer()
-            .encode(&mut out)?;
-        let heap = rt.alloc();
-        assert_eq!(rt;
-            Answer::decode(heap, &out[..len]),
-            Ok(Answer::Amounts(cents.to_vec(heap)?))
-        );
+        let answer = paid(&rt, there, claims, in_order).answer();
+        let len = answer.encode(&mut out).ok().expect(&rt, "too long");
+        assert_amounts(&rt, rt.alloc(), &out[..len], cents);
     }
-    Ok(())
 }
 
 // The answer to the call for cents of 500 cents among 300, 100 and 200: its kind, 3 amounts: 267,
@@ -80,32 +92,31 @@ fn cents_as_bytes(rt: HostRuntime) -> Result<(), Fail> {
 const ROW: &[u8] = b"\x03\x03\0\0\0\0\0\0\0\
     \x0b\x01\0\0\0\0\0\0\x43\0\0\0\0\0\0\0\xa6\0\0\0\0\0\0\0";
 
-#[test]
-fn bytes_of_an_answer(rt: HostRuntime) -> Result<(), Fail> {
-    let terms = terms_of(500, &[100, 200, 300]).ok_or("no terms")?;
-    let claims = &[300, 100, 200];
-    let mut out = [170u8; 48];
-    let answer = Cents::of(Shares { terms, claims })?.answer();
-    assert_eq!(rt; answer.encode(&mut out), Ok(ROW.len()));
+// Bytes begin with a row, and those behind stay.
+fn assert_row(rt: &impl Abort, out: &[u8], row: &[u8]) {
     for (i, byte) in out.iter().enumerate() {
-        assert_eq!(rt; *byte, ROW.get(i).copied().unwrap_or(170), "at {i}");
+        assert!(rt; *byte == row.get(i).copied().unwrap_or(170), "at {i}");
     }
-    Ok(())
+}
+
+#[test]
+fn bytes_of_an_answer(rt: HostRuntime) {
+    let answer = paid(&rt, 500, &[300, 100, 200], &[100, 200, 300]).answer();
+    let mut out = [170u8; 48];
+    assert!(rt; answer.encode(&mut out) == Ok(ROW.len()));
+    assert_row(&rt, &out, ROW);
 }
 
 // One word and one byte too few.
 #[test]
-fn too_little_room_and_nothing_is_written(rt: HostRuntime) -> Result<(), Fail> {
-    let terms = terms_of(500, &[100, 200, 300]).ok_or("no terms")?;
-    let claims = &[300, 100, 200];
-    let cents = Cents::of(Shares { terms, claims })?;
+fn too_little_room_and_nothing_is_written(rt: HostRuntime) {
+    let cents = paid(&rt, 500, &[300, 100, 200], &[100, 200, 300]);
     let mut words = [170; 2];
-    assert_eq!(rt; cents.write(&mut words), Err(Refusal::NotLent));
-    assert!(rt; words == [170; 2]);
+    assert!(rt; cents.write(&mut words) == Err(Refusal::NotLent));
+    assert_written(&rt, &words, &[]);
     let mut bytes = [170u8; 32];
-    assert_eq!(rt; cents.answer().encode(&mut bytes), Err(Refusal::NotLent));
-    assert!(rt; bytes == [170u8; 32]);
-    Ok(())
+    assert!(rt; cents.answer().encode(&mut bytes) == Err(Refusal::NotLent));
+    assert_row(&rt, &bytes, &[]);
 }
 
 // The same number for each of 1,024, but another from one place to another.
@@ -130,13 +141,11 @@ const MANY: &[(usize, u64, u64, u64, usize)] = &[
 ];
 
 #[test]
-fn the_first_of_equal_claims_have_a_cent_more(rt: HostRuntime) -> Result<(), Fail> {
+fn the_first_of_equal_claims_have_a_cent_more(rt: HostRuntime) {
     for &(count, there, claim, least, more) in MANY {
         assert!(rt; count <= 1024);
         let claims = &[claim; 1024][..count];
-        let terms = terms_of(there, claims).ok_or("no terms")?;
         let words = stretch(least, least + 1, 0, more);
-        assert_words(&rt, Cents::of(Shares { terms, claims })?, &words[..count]);
+        assert_words(&rt, paid(&rt, there, claims, claims), &words[..count]);
     }
-    Ok(())
 }
