@@ -32,27 +32,15 @@ impl Numbers {
 }
 
 // Numbers are printed so, with a space between each two.
-pub(crate) fn assert_spaced(
-    rt: &impl Abort,
-    heap: Global,
-    numbers: &[u64],
-    want: &[u8],
-) -> Result<(), AllocError> {
-    let printed = Spaced(numbers).to_string(heap)?;
+pub(crate) fn assert_spaced(rt: &impl Abort, heap: Global, numbers: &[u64], want: &[u8]) {
+    let printed = Spaced(numbers).to_string(heap).ok().expect(rt, "no memory");
     assert!(rt; printed.as_bytes() == want, "{printed}");
-    Ok(())
 }
 
 // An answer is printed so.
-pub(crate) fn assert_shown(
-    rt: &impl Abort,
-    heap: Global,
-    answer: Answer<Vec<u64>>,
-    want: &[u8],
-) -> Result<(), AllocError> {
-    let printed = Shown(&answer).to_string(heap)?;
+pub(crate) fn assert_shown(rt: &impl Abort, heap: Global, answer: Answer<Vec<u64>>, want: &[u8]) {
+    let printed = Shown(&answer).to_string(heap).ok().expect(rt, "no memory");
     assert!(rt; printed.as_bytes() == want, "{printed}");
-    Ok(())
 }
 
 // Puts a number behind a text, and what ends it.

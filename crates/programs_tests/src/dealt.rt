@@ -85,19 +85,15 @@ fn spoil(random: &mut Numbers, parts: &mut [Part], spoils: bool) {
 }
 
 // The same is found as two by two, and where nothing is spoiled all is right.
-fn find(
-    rt: &impl Abort,
-    heap: Global,
-    d: u64,
-    parts: &[Part],
-    spoils: bool,
-) -> Result<Finding, AllocError> {
+fn find(rt: &impl Abort, heap: Global, d: u64, parts: &[Part], spoils: bool) -> Finding {
     let mut text = String::new(heap);
-    write_parts(&mut text, d, parts)?;
-    let found = audit(heap, text.as_bytes())?;
+    write_parts(&mut text, d, parts)
+        .ok()
+        .expect(rt, "no memory");
+    let found = audit(heap, text.as_bytes()).ok().expect(rt, "no memory");
     assert!(rt; found == wanted(parts), "{text}");
     assert!(rt; spoils || found == Right, "{text}");
-    Ok(found)
+    found
 }
 
 // Every other time a share is one part more or less.
@@ -111,7 +107,7 @@ fn the_same_two_by_two(rt: HostRuntime) -> Result<(), Fail> {
         let mut parts = Vec::new(heap);
         deal(&mut parts, &mut random, half)?;
         spoil(&mut random, &mut parts, i % 2 == 1);
-        let found = find(&rt, heap, half.wrapping_mul(2), &parts, i % 2 == 1)?;
+        let found = find(&rt, heap, half.wrapping_mul(2), &parts, i % 2 == 1);
         wrong = wrong.wrapping_add(usize::from(found != Right));
     }
     assert!(rt; wrong > 100);

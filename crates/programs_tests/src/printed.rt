@@ -27,12 +27,11 @@ const NUMBERS: &[(u64, &[u8])] = &[
 ];
 
 #[test]
-fn numbers(rt: HostRuntime) -> Result<(), Fail> {
+fn numbers(rt: HostRuntime) {
     for &(n, text) in NUMBERS {
-        assert_shown(&rt, rt.alloc(), Answer::Number(n), text)?;
-        assert_spaced(&rt, rt.alloc(), &[n], text)?;
+        assert_shown(&rt, rt.alloc(), Answer::Number(n), text);
+        assert_spaced(&rt, rt.alloc(), &[n], text);
     }
-    Ok(())
 }
 
 // Lists, how they are printed as cents or claims, the parts of a cent, and how they are printed as shares in these.
@@ -60,9 +59,9 @@ const LISTS: &[(&[u64], &[u8], u64, &[u8])] = &[
 fn lists(rt: HostRuntime) -> Result<(), Fail> {
     let heap = rt.alloc();
     for &(list, cents, d, shares) in LISTS {
-        assert_spaced(&rt, heap, list, cents)?;
-        assert_shown(&rt, heap, Answer::Amounts(list.to_vec(heap)?), cents)?;
-        assert_shown(&rt, heap, Answer::Parts(d, list.to_vec(heap)?), shares)?;
+        assert_spaced(&rt, heap, list, cents);
+        assert_shown(&rt, heap, Answer::Amounts(list.to_vec(heap)?), cents);
+        assert_shown(&rt, heap, Answer::Parts(d, list.to_vec(heap)?), shares);
     }
     Ok(())
 }
@@ -92,10 +91,9 @@ const REFUSED: &[(Refusal, Place, &[u8])] = &[
 ];
 
 #[test]
-fn refusals(rt: HostRuntime) -> Result<(), Fail> {
+fn refusals(rt: HostRuntime) {
     for &(why, place, text) in REFUSED {
         let refused = Answer::Refused(TurnedAway { why, place });
-        assert_shown(&rt, rt.alloc(), refused, text)?;
+        assert_shown(&rt, rt.alloc(), refused, text);
     }
-    Ok(())
 }
