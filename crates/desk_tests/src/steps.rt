@@ -23,7 +23,7 @@ fn take(rt: &impl Abort, mem: &mut [u64; WORDS], limit: usize, steps: &[Step]) {
 fn opened(rt: &impl Abort, limit: usize) -> [u64; WORDS] {
     assert!(rt; limit <= 8);
     let mut mem = [HELD; WORDS];
-    assert_eq!(rt; open(&mut mem[..64 + 3 * limit], limit), Ok(()));
+    assert!(rt; open(&mut mem[..64 + 3 * limit], limit).is_ok());
     mem
 }
 
@@ -191,7 +191,7 @@ const ROWS: &[(&[u8], &[u8])] = &[
 // What lies behind an answer stays.
 fn assert_bytes(rt: &impl Abort, mem: &mut [u64], bytes: &[u8], row: &[u8]) {
     let mut out = [LENT; 60];
-    assert_eq!(rt; call(mem, bytes, &mut out), Ok(row.len()));
+    assert!(rt; call(mem, bytes, &mut out) == Ok(row.len()), "{bytes:?}");
     assert!(rt; out.starts_with(row));
     assert_stays(rt, &out, row.len());
 }
