@@ -5,7 +5,6 @@ use desk::{asked, call, open};
 use shares::check;
 use std::alloc::{AllocError, Global};
 use std::process::Abort;
-use std::test::Fail;
 use wire::Answer::{self, Amounts, Number, Parts};
 use wire::Call::{self, Cents, Claim, Come, Prove, Shares};
 
@@ -82,13 +81,13 @@ fn steps(heap: Global, random: &mut Numbers, estate: Estate) -> Result<Vec<Step>
 }
 
 // What a call is answered. Both go as bytes.
-fn told(heap: Global, mem: &mut [u64], asks: Call) -> Result<Answer<Vec<u64>>, Fail> {
+fn told(rt: &impl Abort, heap: Global, mem: &mut [u64], asks: Call) -> Answer<Vec<u64>> {
     let mut bytes = [0u8; 17];
-    let len = asks.encode(&mut bytes)?;
+    let len = asks.encode(&mut bytes).expect(rt, "no call is longer");
     let mut out = [170u8; 120];
-    let sent = call(mem, &bytes[..len], &mut out)?;
-    let answer = out.get(..sent).ok_or("more than was lent")?;
-    Ok(Answer::decode(heap, answer)?)
+    let sent = call(mem, &bytes[..len], &mut out).expect(rt, "turned away");
+    let answer = out.get(..sent).expect(rt, "more than was lent");
+    Answer::decode(heap, answer).ok().expect(rt, "no answer")
 }
 
 // How many parts a cent has, and shares in these, against other parts and shares: each creditor has as much.
@@ -102,11 +101,10 @@ fn same(one: (u64, &[u64]), other: (u64, &[u64])) -> bool {
 }
 
 // Each step is answered its number.
-fn take(rt: &impl Abort, heap: Global, mem: &mut [u64], steps: Vec<Step>) -> Result<(), Fail> {
+fn take(rt: &impl Abort, heap: Global, mem: &mut [u64], steps: Vec<Step>) {
     for (call, number) in steps {
-        assert_eq!(rt; told(heap, mem, call)?, Number(number), "{call:?}");
+        assert!(rt; told(rt, heap, mem, call) == Number(number), "{call:?}");
     }
-    Ok(())
 }
 
 // A desk answers with these shares, which are given in so many parts of a cent; its own parts are few, so that no product is
@@ -117,14 +115,31 @@ fn assert_shares(
     mem: &mut [u64],
     claims: &[u64],
     wanted: (u64, &[u64]),
-) -> Result<(), Fail> {
-    let Parts(d, found) = told(heap, mem, Shares)? else {
+) {
+    let Parts(d, found) = told(rt, heap, mem, Shares) else {
         panic!(rt; "{claims:?}");
     };
     assert!(rt; 0 < d && d <= 1000);
     assert!(rt; same((d, &found), wanted), "{claims:?}");
     assert!(rt; check(d, claims, &found).is_ok(), "{claims:?}");
-    Ok(())
+}
+
+// A desk answers with the whole cents of these shares.
+fn assert_cents(
+    rt: &impl Abort,
+    heap: Global,
+    mem: &mut [u64],
+    claims: &[u64],
+    wanted: (u64, &[u64]),
+) {
+    let (parts, shares) = wanted;
+    let Amounts(found) = told(rt, heap, mem, Cents) else {
+        panic!(rt; "{claims:?}");
+    };
+    let cents = whole_cents(heap, parts, shares)
+        .ok()
+        .expect(rt, "no memory");
+    assert!(rt; found == cents, "{claims:?} {found:?}");
 }
 
 // Numbers at random, and memory for a desk of up to twelve creditors.
@@ -152,18 +167,18 @@ impl Bench {
         estate: Estate,
         parts: u64,
         shares: &[u64],
-    ) -> Result<(), Fail> {
+    ) {
         let (claims, _) = estate;
         let limit = claims.len().wrapping_add(self.random.below(3) as usize);
-        let steps = steps(heap, &mut self.random, estate)?;
-        let words = asked(limit)?.words;
+        let steps = steps(heap, &mut self.random, estate)
+            .ok()
+            .expect(rt, "no memory");
+        let words = asked(limit).expect(rt, "too many").words;
         assert!(rt; words <= 100);
         let lent = &mut self.words[..words];
-        open(lent, limit)?;
-        take(rt, heap, lent, steps)?;
-        assert_shares(rt, heap, lent, claims, (parts, shares))?;
-        let cents = Amounts(whole_cents(heap, parts, shares)?);
-        assert_eq!(rt; told(heap, lent, Cents)?, cents, "{estate:?}");
-        Ok(())
+        open(lent, limit).expect(rt, "not opened");
+        take(rt, heap, lent, steps);
+        assert_shares(rt, heap, lent, claims, (parts, shares));
+        assert_cents(rt, heap, lent, claims, (parts, shares));
     }
 }

@@ -5,7 +5,6 @@ use shares::Fault::{self, Pair};
 use shares::check;
 use std::alloc::{AllocError, Global};
 use std::process::Abort;
-use std::test::Fail;
 
 // What a creditor claims in twelfths of a cent, and its share in these.
 type Part = (u64, u64);
@@ -59,7 +58,7 @@ fn assert_checked(rt: &impl Abort, count: usize, claims: Three, division: Three)
     let parts = [(first, a), (second, b), (third, c)];
     let wanted = verdict(&parts[..count]);
     let found = check(12, &claims[..count], &division[..count]);
-    assert_eq!(rt; found, wanted, "{claims:?} {division:?}");
+    assert!(rt; found == wanted, "{claims:?} {division:?}");
     wanted.is_ok()
 }
 
@@ -71,27 +70,28 @@ fn assert_one(
     bench: &mut Bench,
     count: usize,
     estate: (Three, u64),
-) -> Result<usize, Fail> {
+) -> usize {
     assert!(rt; count <= 3);
     let (claims, there) = estate;
     let twelfths = claims.map(|claim| claim.wrapping_mul(12));
-    let all = divisions(heap, twelfths, there.wrapping_mul(12))?;
+    let all = divisions(heap, twelfths, there.wrapping_mul(12));
+    let all = all.ok().expect(rt, "no memory");
     let mut passed = 0u64;
     for division in &all {
         if assert_checked(rt, count, claims, *division) {
             passed = passed.wrapping_add(1);
-            bench.assert_desk(rt, heap, (&claims[..count], there), 12, &division[..count])?;
+            bench.assert_desk(rt, heap, (&claims[..count], there), 12, &division[..count]);
         }
     }
     assert!(rt; passed == 1, "{claims:?} {there}");
-    Ok(all.len())
+    all.len()
 }
 
 // How many creditors, and how many lists of claims from 0 to 4 cents these can have.
 const LISTS: [(usize, u64); 4] = [(0, 1), (1, 5), (2, 25), (3, 125)];
 
 #[test]
-fn one_division_passes(rt: HostRuntime) -> Result<(), Fail> {
+fn one_division_passes(rt: HostRuntime) {
     let mut bench = Bench::new(3);
     let mut estates = 0u64;
     let mut gone_through = 0usize;
@@ -99,12 +99,11 @@ fn one_division_passes(rt: HostRuntime) -> Result<(), Fail> {
         for list in 0..lists {
             let claims = [list % 5, list / 5 % 5, list / 25];
             for there in 0..=sum(&claims) {
-                let all = assert_one(&rt, rt.alloc(), &mut bench, count, (claims, there))?;
+                let all = assert_one(&rt, rt.alloc(), &mut bench, count, (claims, there));
                 gone_through = gone_through.wrapping_add(all);
                 estates = estates.wrapping_add(1);
             }
         }
     }
     assert_eq!(rt; (estates, gone_through), (1016, 164_216));
-    Ok(())
 }

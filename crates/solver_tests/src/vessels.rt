@@ -5,7 +5,6 @@ use crate::desks::Bench;
 use shares::check;
 use std::alloc::{AllocError, Global};
 use std::process::Abort;
-use std::test::Fail;
 
 // Heights in parts of a cent: up to which the lower half stands, and from which on the upper half hangs. One part of water
 // fills a vessel by one part of a cent, and the tube holds none.
@@ -93,50 +92,47 @@ fn assert_estates(
     bench: &mut Bench,
     parts: u64,
     estates: (u64, u64, u64),
-) -> Result<(u64, u64), Fail> {
+) -> (u64, u64) {
     let (how_many, creditors, most) = estates;
     let mut compared = 0u64;
     let mut refused = 0u64;
     for _ in 0..how_many {
         let count = bench.random.below(creditors.wrapping_add(1));
-        let claims = bench.random.claims(heap, count, most)?;
+        let claims = bench.random.claims(heap, count, most);
+        let claims = claims.ok().expect(rt, "no memory");
         let all = sum(&claims);
         let there = bench.random.below(all.wrapping_add(3));
-        let mut water = pour(heap, parts, (&claims, there))?;
-        assert_eq!(rt;
-            sum(&water),
-            there.min(all).wrapping_mul(parts),
-            "{claims:?}"
-        );
-        bench.assert_desk(rt, heap, (&claims, there), parts, &water)?;
+        let water = pour(heap, parts, (&claims, there));
+        let mut water = water.ok().expect(rt, "no memory");
+        let poured = there.min(all).wrapping_mul(parts);
+        assert!(rt; sum(&water) == poured, "{claims:?}");
+        bench.assert_desk(rt, heap, (&claims, there), parts, &water);
         compared = compared.wrapping_add(count);
         refused = refused.wrapping_add(assert_checked(rt, parts, &claims, &mut water));
     }
-    Ok((compared, refused))
+    (compared, refused)
 }
 
 // A cent has twice as many parts as the least number that 1 to 6 divide, so that the water stops after a whole step.
 #[test]
-fn few_creditors(rt: HostRuntime) -> Result<(), Fail> {
+fn few_creditors(rt: HostRuntime) {
     let mut bench = Bench::new(1);
     let estates = (30_000, 6, 20);
-    let (compared, refused) = assert_estates(&rt, rt.alloc(), &mut bench, 120, estates)?;
+    let (compared, refused) = assert_estates(&rt, rt.alloc(), &mut bench, 120, estates);
     assert!(rt;
         compared > 85_000 && refused > 150_000,
         "{compared} {refused}"
     );
-    Ok(())
 }
 
 // Twice the least number that 1 to 10 divide.
 #[test]
-fn more_creditors(rt: HostRuntime) -> Result<(), Fail> {
+fn more_creditors(rt: HostRuntime) {
     let mut bench = Bench::new(2);
     let estates = (4000, 10, 3);
-    let (compared, refused) = assert_estates(&rt, rt.alloc(), &mut bench, 5040, estates)?;
+    let (compared, refused) = assert_estates(&rt, rt.alloc(), &mut bench, 5040, estates);
     assert!(rt;
         compared > 18_000 && refused > 60_000,
         "{compared} {refused}"
     );
-    Ok(())
 }
