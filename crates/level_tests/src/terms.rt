@@ -41,9 +41,9 @@ fn terms_found(rt: HostRuntime) -> Result<(), Fail> {
             numerator,
             denominator,
         };
-        assert_eq!(rt; terms.side, side);
-        assert_eq!(rt; terms.level, level);
-        assert_eq!(rt; terms.parts(), parts);
+        assert!(rt; terms.side == side);
+        assert!(rt; terms.level == level);
+        assert!(rt; terms.parts() == parts);
     }
     Ok(())
 }
@@ -58,9 +58,9 @@ fn at_the_limits(rt: HostRuntime) -> Result<(), Fail> {
         numerator: 48_000_000_000,
         denominator: 1024,
     };
-    assert_eq!(rt; terms.side, Side::Losses);
-    assert_eq!(rt; terms.level, level);
-    assert_eq!(rt; terms.parts(), 2048);
+    assert!(rt; terms.side == Side::Losses);
+    assert!(rt; terms.level == level);
+    assert!(rt; terms.parts() == 2048);
     assert!(rt; terms_of(1_000_000_000_001, &claims).is_none());
     Ok(())
 }

@@ -22,8 +22,8 @@ fn claims_inserted(rt: HostRuntime) {
     for &(before, count, claim, at, after) in INSERTED {
         let mut words = before;
         let mut row = Row::new(&mut words, 1, count);
-        assert_eq!(rt; row.insert(claim), Some(at));
-        assert_eq!(rt; row.count, count + 1);
+        assert!(rt; row.insert(claim) == Some(at));
+        assert!(rt; row.count == count + 1);
         assert!(rt; words == after);
     }
 }
@@ -44,8 +44,8 @@ fn claims_removed(rt: HostRuntime) {
     for &(before, count, claim, at, after) in REMOVED {
         let mut words = before;
         let mut row = Row::new(&mut words, 1, count);
-        assert_eq!(rt; row.remove(claim), Some(at));
-        assert_eq!(rt; row.count, count - 1);
+        assert!(rt; row.remove(claim) == Some(at));
+        assert!(rt; row.count == count - 1);
         assert!(rt; words == after);
     }
 }
@@ -67,8 +67,8 @@ fn claims_replaced(rt: HostRuntime) {
     for &(old, new, moved, after) in REPLACED {
         let mut words = FOUR;
         let mut row = Row::new(&mut words, 1, 4);
-        assert_eq!(rt; row.replace(old, new), Some(moved));
-        assert_eq!(rt; row.count, 4);
+        assert!(rt; row.replace(old, new) == Some(moved));
+        assert!(rt; row.count == 4);
         assert!(rt; words == after);
     }
 }
@@ -82,10 +82,10 @@ fn no_room(rt: HostRuntime) {
     for &(start, count) in NO_ROOM {
         let mut words = FOUR;
         let mut row = Row::new(&mut words, start, count);
-        assert_eq!(rt; row.insert(10), None);
+        assert!(rt; row.insert(10).is_none());
         row.count = count + 1;
-        assert_eq!(rt; row.remove(10), None);
-        assert_eq!(rt; row.replace(10, 15), None);
+        assert!(rt; row.remove(10).is_none());
+        assert!(rt; row.replace(10, 15).is_none());
         assert!(rt; words == FOUR);
     }
 }
@@ -98,8 +98,8 @@ fn not_there(rt: HostRuntime) {
     for &claim in NOT_THERE {
         let mut words = FOUR;
         let mut row = Row::new(&mut words, 1, 4);
-        assert_eq!(rt; row.remove(claim), None);
-        assert_eq!(rt; row.replace(claim, 10), None);
+        assert!(rt; row.remove(claim).is_none());
+        assert!(rt; row.replace(claim, 10).is_none());
         assert!(rt; words == FOUR);
     }
 }
