@@ -1,11 +1,11 @@
 -- What the functions for C answer: one signed number. Assumes nothing.
-use Rattle.std.specs.Prelude.{◌≡◌, ℕ, ◌+◌, ◌*◌, ◌^◌, ◌<◌, ◌≤◌, ℤ, pos, neg_ℤ, ◌<ℤ◌, List, Ok, Err, Result, IfErr, nat_le, if◌then◌else◌}
+use Rattle.std.specs.Prelude.{◌≡◌, ℕ, ◌+◌, ◌*◌, ◌^◌, ◌<◌, ℤ, pos, neg_ℤ, List, Ok, Err, Result, IfErr, nat_le, if◌then◌else◌}
 use Rattle.estate.specs.Calls.{Call}
 use Rattle.estate.specs.Limits.{most_creditors}
 use Rattle.estate.specs.Refusals.{not_lent}
 use Rattle.wire.specs.Meaning.{refusal_number}
 use Rattle.wire.specs.declared.refusals.TurnedAway.{TurnedAway}
-use Rattle.desk.specs.Memory.{words_asked, bytes_asked}
+use Rattle.desk.specs.Memory.{words_asked}
 use Rattle.desk.specs.Opening.{Opened}
 use Rattle.desk.specs.Calling.{Called}
 

@@ -1,10 +1,11 @@
 // The desk as functions for C, over memory that the caller lends. Each answers one signed number: a length, or, of what is
 // refused, the refusal and its place, as a number below 0.
 #![tactic(auto)]
+
 ghost use Rattle.std.specs.Prelude.{◌≡◌, ◌<ℤ◌, ◌<◌, ◌^◌, pos, IfOk};
 ghost use Rattle.desk.specs.Memory.{words_asked, bytes_asked};
 ghost use Rattle.wire.specs.Reading.{read};
-ghost use Rattle.vullades.specs.Numbers.{asked, signed, Opens, Calls};
+ghost use Rattle.vullades.specs.Numbers.{asked, signed, Opens, Calls, OneOutcome};
 
 use desk::{asked, call, open};
 use wire::TurnedAway;
@@ -40,11 +41,12 @@ pub extern "C" fn vullades_open(mem: &mut [u64], limit: usize) -> i64
 
 // Does what a call asks for, and answers how many bytes the answer has, which stand first in the bytes lent for it.
 #[unsafe(no_mangle)]
-#[tactic(auto, using(crate::proofs::Numbers::calls, crate::proofs::Numbers::answer_fits, crate::proofs::Numbers::memory_kept, crate::proofs::Numbers::bytes_kept))]
+#[tactic(auto, using(crate::proofs::Numbers::calls, crate::proofs::Numbers::answer_fits, crate::proofs::Numbers::memory_kept, crate::proofs::Numbers::bytes_kept, crate::proofs::Numbers::one_outcome))]
 pub extern "C" fn vullades_call(mem: &mut [u64], bytes: &[u8], out: &mut [u8]) -> i64
     ensures calls { Calls (read bytes.now) mem.old mem.new out.old out.new result }
     ensures memory_kept { result <ℤ pos 0 → mem.new ≡ mem.old }
     ensures bytes_kept { result <ℤ pos 0 → out.new ≡ out.old }
+    ensures one_outcome { OneOutcome }
 {
     signed(call(mem, bytes, out))
 }
