@@ -33,9 +33,9 @@ struct command {
 struct input {
     FILE *file;
     bool terminal;
+    char text[MOST_LINE + 2]; /* what stands in front of a #, as much as fits */
+    size_t length;            /* its bytes, one more than MOST_LINE where it is too long */
     uint64_t line;            /* the number of the line, from 1 */
-    size_t length;            /* of what stands in front of a #; one more than fits where it is too long */
-    char text[MOST_LINE + 2]; /* this */
 };
 
 /* A byte as it is kept and told: blanks as spaces, and what no command has as a question mark. */

@@ -63,6 +63,8 @@ static bool is_answer(const struct desk *desk, uint8_t kind, size_t length)
 /* Which refusal was answered, if it is one that can come of this call. */
 static int refusal_of(const struct desk *desk, uint8_t call)
 {
+    if (desk->answered == INT64_MIN)
+        return DESK_BROKEN; /* nothing is its negation */
     const bool prove = call == VULLADES_PROVE;
     const int refusal = vullades_refusal(desk->answered);
     const uint32_t place = refusal == VULLADES_TOO_LARGE && prove ? 1 : 0;

@@ -450,6 +450,19 @@ impl Waiting {
     }
 }
 
+/// What a child ends with, that is to end by itself.
+#[track_caller]
+fn end(mut child: Child) -> Option<i32> {
+    for _ in 0..1000 {
+        if let Some(status) = child.try_wait().expect("it is a child") {
+            return status.code();
+        }
+        thread::sleep(Duration::from_millis(10));
+    }
+    child.kill().expect("it is a child");
+    panic!("it does not end");
+}
+
 /// An answer comes when its line was sent, also while more input may come.
 #[test]
 fn a_program_that_waits() {
@@ -463,7 +476,7 @@ fn a_program_that_waits() {
         stdin.write_all(b"claim\n").expect("it reads");
         stderr.expect("line 2: too few words: write claim CENTS\n");
         stdin.write_all(b"quit\n").expect("it reads");
-        assert_eq!(child.wait().expect("it ends").code(), Some(1));
+        assert_eq!(end(child), Some(1));
         stdout.expect_end();
         stderr.expect_end();
     }
@@ -524,7 +537,7 @@ fn somebody_at_a_terminal() {
             stdout.expect(&format!("{COMMANDS}> "));
             typed.write_all(last.as_bytes()).expect("it reads");
             stdout.expect(left);
-            assert_eq!(child.wait().expect("it ends").code(), Some(0));
+            assert_eq!(end(child), Some(0));
             stdout.expect_end();
             stderr.expect_end();
         }
