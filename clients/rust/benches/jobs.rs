@@ -1,0 +1,281 @@
+//! What a job takes at the library and at the rival, by the same bytes: `cargo bench --bench jobs`, and `-- quick` for a
+//! rough run.
+//!
+//! Both are measured in turns, in segments of some 50 microseconds, and of all segments of a job the shortest counts: what
+//! else the machine does only ever makes one longer. Before any is timed, both have answered all of it alike, byte for byte.
+
+mod estates;
+mod library;
+mod rival;
+
+use std::hint::black_box;
+use std::time::{Duration, Instant};
+
+use estates::{CENTS, KINDS, Kind, SHARES, Seed, all_come, claim, come, prove};
+use library::Library;
+use rival::Rival;
+
+const COUNTS: [usize; 4] = [16, 64, 256, 1024];
+/// How long a segment is to be at the side that takes longer.
+const SEGMENT: Duration = Duration::from_micros(50);
+
+trait Desk: Sized {
+    fn open(limit: usize) -> Self;
+    fn call(&mut self, call: &[u8], answer: &mut [u8]) -> i64;
+    fn level(&self, there: u64) -> (u64, u64);
+    const LEVEL: bool;
+}
+
+impl Desk for Library {
+    fn open(limit: usize) -> Self {
+        Library::open(limit).expect("a desk")
+    }
+    #[inline(always)]
+    fn call(&mut self, call: &[u8], answer: &mut [u8]) -> i64 {
+        Library::call(self, call, answer)
+    }
+    #[cfg(feature = "level")]
+    #[inline(always)]
+    fn level(&self, there: u64) -> (u64, u64) {
+        self.level_of(there)
+    }
+    #[cfg(not(feature = "level"))]
+    fn level(&self, _: u64) -> (u64, u64) {
+        unreachable!("built without the level")
+    }
+    const LEVEL: bool = cfg!(feature = "level");
+}
+
+impl Desk for Rival {
+    fn open(limit: usize) -> Self {
+        Rival::open(limit).expect("a desk")
+    }
+    #[inline(always)]
+    fn call(&mut self, call: &[u8], answer: &mut [u8]) -> i64 {
+        Rival::call(self, call, answer)
+    }
+    #[inline(always)]
+    fn level(&self, there: u64) -> (u64, u64) {
+        self.level_of(there)
+    }
+    const LEVEL: bool = true;
+}
+
+#[derive(Clone, Copy, PartialEq, Debug)]
+enum Job {
+    Claim,
+    Prove,
+    Come,
+    Level,
+    Shares,
+    Cents,
+}
+
+const JOBS: [Job; 6] = [Job::Claim, Job::Prove, Job::Come, Job::Level, Job::Shares, Job::Cents];
+
+/// The calls that make an estate, and what is asked of it.
+struct Estate {
+    claims: Vec<Vec<u8>>,
+    comes: Vec<Vec<u8>>,
+    proves: Vec<Vec<u8>>,
+    theres: Vec<u64>,
+}
+
+/// One of each kind on both sides of half.
+fn estates_of(count: usize) -> Vec<Estate> {
+    let of = |kind: Kind, losses: bool, seed: &mut Seed| {
+        let amounts: Vec<u64> = (0..count).map(|_| kind.claim(seed)).collect();
+        let all: u64 = amounts.iter().sum();
+        let percent = if losses { 55 + seed.below(40) } else { 5 + seed.below(40) };
+        Estate {
+            claims: amounts.iter().map(|&cents| claim(cents)).collect(),
+            comes: all_come(all * percent / 100),
+            proves: (0..2048).map(|_| prove(seed.below(count as u64), kind.claim(seed))).collect(),
+            theres: (0..1024).map(|_| seed.below(all + 1)).collect(),
+        }
+    };
+    let mut seed = Seed::new(count as u64);
+    KINDS.iter().flat_map(|&kind| [(kind, false), (kind, true)]).map(|(kind, losses)| of(kind, losses, &mut seed)).collect()
+}
+
+/// One side of a job at so many creditors.
+struct Side<D> {
+    count: usize,
+    desks: Vec<D>,
+    /// Empty desks, a few of each estate, for claims.
+    empty: Vec<D>,
+    answer: Vec<u8>,
+    at: usize,
+}
+
+impl<D: Desk> Side<D> {
+    fn new(count: usize, estates: &[Estate]) -> Self {
+        let mut answer = vec![0; 24 + 8 * count];
+        let made = |estate: &Estate| {
+            let mut desk = D::open(count);
+            for call in estate.claims.iter().chain(&estate.comes) {
+                assert!(desk.call(call, &mut answer) > 0);
+            }
+            desk
+        };
+        Side { count, desks: estates.iter().map(made).collect(), empty: Vec::new(), answer, at: 0 }
+    }
+
+    /// Takes the time of a job that is done about so many times; of one of them.
+    fn segment(&mut self, job: Job, estates: &[Estate], times: usize) -> f64 {
+        let one = come(1);
+        let answer = &mut self.answer[..];
+        let desks = &mut self.desks[..];
+        let (rounds, taken) = match job {
+            Job::Claim => {
+                let copies = times.div_ceil(self.count * estates.len());
+                self.empty.clear();
+                self.empty.extend((0..copies * estates.len()).map(|_| D::open(self.count)));
+                let start = Instant::now();
+                for (desk, estate) in self.empty.iter_mut().zip(estates.iter().cycle()) {
+                    for call in &estate.claims {
+                        black_box(desk.call(black_box(call), black_box(answer)));
+                    }
+                }
+                (copies * estates.len() * self.count, start.elapsed())
+            }
+            Job::Prove => {
+                let each = times.div_ceil(estates.len()).min(2048);
+                let from = self.at % 2048;
+                self.at += each;
+                let start = Instant::now();
+                for (desk, estate) in desks.iter_mut().zip(estates) {
+                    for call in estate.proves.iter().cycle().skip(from).take(each) {
+                        black_box(desk.call(black_box(call), black_box(answer)));
+                    }
+                }
+                (each * estates.len(), start.elapsed())
+            }
+            Job::Come => {
+                let each = times.div_ceil(estates.len());
+                let start = Instant::now();
+                for desk in desks.iter_mut() {
+                    for _ in 0..each {
+                        black_box(desk.call(black_box(&one), black_box(answer)));
+                    }
+                }
+                (each * estates.len(), start.elapsed())
+            }
+            Job::Level => {
+                let each = times.div_ceil(estates.len()).min(1024);
+                let start = Instant::now();
+                for (desk, estate) in desks.iter().zip(estates) {
+                    for &there in &estate.theres[..each] {
+                        black_box(black_box(desk).level(black_box(there)));
+                    }
+                }
+                (each * estates.len(), start.elapsed())
+            }
+            Job::Shares | Job::Cents => {
+                let call = if job == Job::Shares { SHARES } else { CENTS };
+                let each = times.div_ceil(estates.len());
+                let start = Instant::now();
+                for _ in 0..each {
+                    for desk in desks.iter_mut() {
+                        black_box(desk.call(black_box(call), black_box(answer)));
+                    }
+                }
+                (each * estates.len(), start.elapsed())
+            }
+        };
+        taken.as_secs_f64() * 1e9 / rounds as f64
+    }
+}
+
+/// Both answer all of it alike, before and behind every change.
+fn compare(count: usize, estates: &[Estate]) {
+    for (number, estate) in estates.iter().enumerate() {
+        let (mut library, mut rival) = (<Library as Desk>::open(count), <Rival as Desk>::open(count));
+        let (mut one, mut other) = (vec![0xa5; 24 + 8 * count], vec![0xa5; 24 + 8 * count]);
+        let mut both = |call: &[u8]| {
+            let answered = library.call(call, &mut one);
+            assert_eq!(answered, rival.call(call, &mut other), "{call:?}, {count} creditors, estate {number}");
+            assert!(answered > 0, "{answered}: {call:?}, {count} creditors, estate {number}");
+            assert!(one == other, "{call:?}, {count} creditors, estate {number}");
+        };
+        let last = come(1);
+        for calls in [&estate.claims, &estate.comes, &estate.proves, &vec![last]] {
+            for (place, call) in calls.iter().enumerate() {
+                both(call);
+                if place % 16 == 0 || place + 1 == calls.len() {
+                    both(SHARES);
+                    both(CENTS);
+                }
+            }
+        }
+        if Library::LEVEL {
+            for &there in &estate.theres {
+                assert_eq!(Desk::level(&library, there), Desk::level(&rival, there), "{there}, estate {number}");
+            }
+        }
+    }
+}
+
+fn command(name: &str, arguments: &[&str]) -> Option<String> {
+    let output = std::process::Command::new(name).args(arguments).output().ok()?;
+    Some(String::from_utf8(output.stdout).ok()?.trim().to_string())
+}
+
+fn processor() -> Option<String> {
+    let text = std::fs::read_to_string("/proc/cpuinfo").ok()?;
+    let line = text.lines().find(|line| line.starts_with("model name"))?;
+    Some(line.split_once(": ")?.1.to_string())
+}
+
+fn main() {
+    let words: Vec<String> = std::env::args().skip(1).filter(|word| !word.starts_with("--")).collect();
+    let quick = words.iter().any(|word| word == "quick") || std::env::var_os("QUICK").is_some();
+    let only: Vec<Job> = JOBS.into_iter().filter(|job| words.contains(&format!("{job:?}").to_lowercase())).collect();
+    let jobs: Vec<Job> = JOBS
+        .into_iter()
+        .filter(|job| only.is_empty() || only.contains(job))
+        .filter(|&job| job != Job::Level || Library::LEVEL)
+        .collect();
+    let time = Duration::from_secs_f64(if quick { 8.0 } else { 75.0 });
+    let each = time / (JOBS.len() * COUNTS.len()) as u32;
+
+    let unknown = || "?".to_string();
+    println!(
+        "{}; {}; {}\n",
+        processor().unwrap_or_else(unknown),
+        command("rustc", &["--version"]).unwrap_or_else(unknown),
+        command("date", &["-u", "+%Y-%m-%d"]).unwrap_or_else(unknown)
+    );
+    println!("| Job | Creditors | Library, ns | Rival, ns | Library / rival |");
+    println!("|---|---|---|---|---|");
+
+    // All estates are compared before anything is timed.
+    let made: Vec<(usize, Vec<Estate>)> = COUNTS.map(|count| (count, estates_of(count))).into();
+    for (count, estates) in &made {
+        compare(*count, estates);
+    }
+    for &job in &jobs {
+        for (count, estates) in &made {
+            let mut library = Side::<Library>::new(*count, estates);
+            let mut rival = Side::<Rival>::new(*count, estates);
+            // How often in one segment: as often as takes that long at the slower side.
+            let mut times = estates.len();
+            loop {
+                let slower = library.segment(job, estates, times).max(rival.segment(job, estates, times));
+                if slower * times as f64 >= SEGMENT.as_nanos() as f64 / 2.0 || times > 1 << 20 {
+                    times = (SEGMENT.as_nanos() as f64 / slower).ceil() as usize;
+                    break;
+                }
+                times *= 2;
+            }
+            let (mut least, mut others) = (f64::INFINITY, f64::INFINITY);
+            let start = Instant::now();
+            while start.elapsed() < each {
+                least = least.min(library.segment(job, estates, times));
+                others = others.min(rival.segment(job, estates, times));
+            }
+            let name = format!("{job:?}").to_lowercase();
+            println!("| {name} | {count} | {least:.1} | {others:.1} | {:.2} |", least / others);
+        }
+    }
+}

@@ -1,0 +1,306 @@
+//! A rival: the same desk, written for speed and proved by nobody. It shares no code with the library.
+//!
+//! Claims are at most 10^9, so they are kept in 32 bits; sums over them need 64.
+
+pub const MOST_CREDITORS: usize = 1024;
+const MOST_CENTS: u64 = 1_000_000_000;
+const MOST_THERE: u64 = 1_000_000_000_000;
+
+/// Why a call is turned away: the number of the refusal, and a place.
+struct Refusal(u32, usize);
+
+impl Refusal {
+    fn signed(self) -> i64 {
+        let place = u32::try_from(self.1).unwrap_or(u32::MAX);
+        -(i64::from(self.0) << 32 | i64::from(place))
+    }
+}
+
+enum Call {
+    Claim(u32),
+    Prove(u64, u32),
+    Come(u32),
+    Shares,
+    Cents,
+}
+
+/// What all shares depend on besides the claims.
+struct Terms {
+    /// Whether less than half of what is claimed is missing, so that losses are levelled.
+    losses: bool,
+    /// What is spread, and among how many: all who claim `from` or more.
+    spread: u64,
+    among: u64,
+    from: u32,
+}
+
+pub struct Rival {
+    limit: usize,
+    there: u64,
+    /// The claims as they came.
+    claims: Vec<u32>,
+    /// The same, ascending.
+    sorted: Vec<u32>,
+    /// At `k` the sum of the `k` smallest; one more than there are claims.
+    sums: Vec<u64>,
+}
+
+impl Rival {
+    /// A desk without claims, in which nothing is there; or the refusal.
+    pub fn open(limit: usize) -> Result<Rival, i64> {
+        if limit > MOST_CREDITORS {
+            return Err(Refusal(3, 0).signed());
+        }
+        let mut sums = Vec::with_capacity(limit + 1);
+        sums.push(0);
+        Ok(Rival { limit, there: 0, claims: Vec::with_capacity(limit), sorted: Vec::with_capacity(limit), sums })
+    }
+
+    /// Answers a call: how long the answer is, or the refusal.
+    #[inline(never)]
+    pub fn call(&mut self, call: &[u8], answer: &mut [u8]) -> i64 {
+        match self.answered(call, answer) {
+            Ok(length) => length as i64,
+            Err(refusal) => refusal.signed(),
+        }
+    }
+
+    fn answered(&mut self, call: &[u8], answer: &mut [u8]) -> Result<usize, Refusal> {
+        let call = decoded(call)?;
+        if answer.len() < 24 + 8 * self.limit {
+            return Err(Refusal(3, 1));
+        }
+        match call {
+            Call::Claim(cents) => {
+                let place = self.claims.len();
+                if place >= self.limit {
+                    return Err(Refusal(5, 0));
+                }
+                self.claim(cents);
+                Ok(number(place as u64, answer))
+            }
+            Call::Prove(place, cents) => {
+                let claim = usize::try_from(place).ok().and_then(|place| self.claims.get_mut(place));
+                let old = std::mem::replace(claim.ok_or(Refusal(4, 0))?, cents);
+                self.moved(old, cents);
+                Ok(number(place, answer))
+            }
+            Call::Come(cents) => {
+                let there = self.there + u64::from(cents);
+                if there > MOST_THERE {
+                    return Err(Refusal(5, 0));
+                }
+                self.there = there;
+                Ok(number(there, answer))
+            }
+            Call::Shares => Ok(self.shares(answer)),
+            Call::Cents => Ok(self.cents(answer)),
+        }
+    }
+
+    fn claim(&mut self, cents: u32) {
+        let at = self.sorted.partition_point(|&claim| claim <= cents);
+        self.claims.push(cents);
+        self.sorted.insert(at, cents);
+        let mut before = self.sums[at];
+        self.sums.push(0);
+        for sum in &mut self.sums[at + 1..] {
+            before = std::mem::replace(sum, before + u64::from(cents));
+        }
+    }
+
+    /// A claim of `old` is one of `new` from now on: keeps the order and the sums.
+    fn moved(&mut self, old: u32, new: u32) {
+        if old < new {
+            let from = self.sorted.partition_point(|&claim| claim <= old) - 1;
+            let to = self.sorted.partition_point(|&claim| claim < new) - 1;
+            self.sorted.copy_within(from + 1..=to, from);
+            self.sorted[to] = new;
+            let mut after = self.sums[from + 1];
+            for k in from + 1..=to {
+                after = self.sums[k + 1];
+                self.sums[k] = after - u64::from(old);
+            }
+            let _ = after;
+            for sum in &mut self.sums[to + 1..] {
+                *sum += u64::from(new - old);
+            }
+        } else {
+            let from = self.sorted.partition_point(|&claim| claim < old);
+            let to = self.sorted.partition_point(|&claim| claim <= new).min(from);
+            self.sorted.copy_within(to..from, to + 1);
+            self.sorted[to] = new;
+            let mut before = self.sums[to];
+            for sum in &mut self.sums[to + 1..=from] {
+                before = std::mem::replace(sum, before + u64::from(new));
+            }
+            for sum in &mut self.sums[from + 1..] {
+                *sum -= u64::from(old - new);
+            }
+        }
+    }
+
+    /// The level where so much is there: what is spread, and among how many.
+    #[inline(never)]
+    pub fn level_of(&self, there: u64) -> (u64, u64) {
+        let terms = self.terms(there);
+        (terms.spread, terms.among)
+    }
+
+    #[inline]
+    fn terms(&self, there: u64) -> Terms {
+        let count = self.sorted.len();
+        let sums = &self.sums[..count + 1];
+        let all = sums[count];
+        let divided = there.min(all);
+        let target = 2 * divided.min(all - divided);
+        // How many are filled before the others are level: the least k for which what all have, filled up to the next
+        // claim, is not too little.
+        let (mut k, mut rest) = (0, count);
+        while rest > 0 {
+            let half = rest / 2;
+            let mid = k + half;
+            let filled = sums[mid] + (count - mid) as u64 * u64::from(self.sorted[mid]);
+            (k, rest) = if filled < target { (mid + 1, rest - half - 1) } else { (k, half) };
+        }
+        Terms {
+            losses: divided > all - divided,
+            spread: target - sums[k],
+            among: (count - k) as u64,
+            from: self.sorted.get(k).copied().unwrap_or(0),
+        }
+    }
+
+    fn shares(&self, answer: &mut [u8]) -> usize {
+        let Terms { losses, spread, among, from } = self.terms(self.there);
+        answer[0] = 2;
+        answer[1..9].copy_from_slice(&(2 * among).max(1).to_le_bytes());
+        answer[9..17].copy_from_slice(&(self.claims.len() as u64).to_le_bytes());
+        let among = among as u32;
+        let times = |claim: u32, among: u32| u64::from(claim) * u64::from(among);
+        let rows = &mut answer[17..];
+        if losses {
+            list(&self.claims, rows, |c| times(c, 2 * among) - if c < from { times(c, among) } else { spread });
+        } else {
+            list(&self.claims, rows, |c| if c < from { times(c, among) } else { spread });
+        }
+        17 + 8 * self.claims.len()
+    }
+
+    fn cents(&self, answer: &mut [u8]) -> usize {
+        let Terms { losses, spread, among, from } = self.terms(self.there);
+        let count = self.claims.len();
+        answer[0] = 3;
+        answer[1..9].copy_from_slice(&(count as u64).to_le_bytes());
+        if count == 0 {
+            return 9;
+        }
+        // Who claims less than `from` has half of its claim, and lacks half a cent where that is odd. All others have a
+        // whole amount, or their claims but a whole amount, and lack the same part of a cent.
+        let parts = 2 * among;
+        let (level, lack) = if losses {
+            let level = spread.div_ceil(parts);
+            (level as u32, level * parts - spread)
+        } else {
+            ((spread / parts) as u32, spread % parts)
+        };
+        let halves: u32 = self.sorted[..count - among as usize].iter().map(|claim| claim & 1).sum();
+        let left = (lack as u32 + halves) / 2;
+        // Up to a place one cent goes to all of a kind, and behind it to none of it: the kinds, and what they have before
+        // the place and behind it.
+        let is_half = |c: u32| c < from && c & 1 == 1;
+        let is_level = |c: u32| c >= from;
+        let (place, before, behind) = match lack.cmp(&among) {
+            std::cmp::Ordering::Equal => (self.place(left, |c| is_half(c) || is_level(c)), (1, 1), (0, 0)),
+            std::cmp::Ordering::Less if left <= halves => (self.place(left, is_half), (1, 0), (0, 0)),
+            std::cmp::Ordering::Less => (self.place(left - halves, is_level), (1, 1), (1, 0)),
+            std::cmp::Ordering::Greater if left <= among as u32 => (self.place(left, is_level), (0, 1), (0, 0)),
+            std::cmp::Ordering::Greater => (self.place(left - among as u32, is_half), (1, 1), (0, 1)),
+        };
+        let (first, last) = self.claims.split_at(place);
+        let (first_rows, last_rows) = answer[9..].split_at_mut(8 * place);
+        for (claims, rows, (half, more)) in [(first, first_rows, before), (last, last_rows, behind)] {
+            if losses {
+                let less = level - more;
+                list(claims, rows, |c| u64::from(if c < from { (c + half) >> 1 } else { c.wrapping_sub(less) }));
+            } else {
+                let level = level + more;
+                list(claims, rows, |c| u64::from(if c < from { (c + half) >> 1 } else { level }));
+            }
+        }
+        9 + 8 * count
+    }
+
+    /// How many claims from the first on have so many of a kind.
+    #[inline]
+    fn place(&self, mut left: u32, kind: impl Fn(u32) -> bool) -> usize {
+        const BLOCK: usize = 64;
+        let mut place = 0;
+        for block in self.claims.chunks(BLOCK) {
+            let some: u32 = block.iter().map(|&claim| u32::from(kind(claim))).sum();
+            if some >= left {
+                break;
+            }
+            left -= some;
+            place += block.len();
+        }
+        for &claim in &self.claims[place..] {
+            if left == 0 {
+                break;
+            }
+            left -= u32::from(kind(claim));
+            place += 1;
+        }
+        place
+    }
+}
+
+/// Writes a number for each claim.
+#[inline]
+fn list(claims: &[u32], rows: &mut [u8], of: impl Fn(u32) -> u64) {
+    for (row, &claim) in rows.as_chunks_mut().0.iter_mut().zip(claims) {
+        *row = of(claim).to_le_bytes();
+    }
+}
+
+fn number(number: u64, answer: &mut [u8]) -> usize {
+    answer[0] = 1;
+    answer[1..9].copy_from_slice(&number.to_le_bytes());
+    9
+}
+
+fn decoded(call: &[u8]) -> Result<Call, Refusal> {
+    let Some((&kind, rest)) = call.split_first() else {
+        return Err(Refusal(1, 0));
+    };
+    match kind {
+        0 => Ok(Call::Claim(cents(alone(rest)?, 0)?)),
+        1 => {
+            let (place, rest) = rest.split_first_chunk().ok_or(Refusal(1, call.len()))?;
+            let new = fitting(rest, 9)?;
+            Ok(Call::Prove(u64::from_le_bytes(*place), cents(new, 1)?))
+        }
+        2 => Ok(Call::Come(cents(alone(rest)?, 0)?)),
+        3 | 4 if !rest.is_empty() => Err(Refusal(1, 1)),
+        3 => Ok(Call::Shares),
+        4 => Ok(Call::Cents),
+        _ => Err(Refusal(1, 0)),
+    }
+}
+
+/// The only number of a call.
+fn alone(rest: &[u8]) -> Result<u64, Refusal> {
+    fitting(rest, 1)
+}
+
+/// The last number of a call, which begins at a place.
+fn fitting(rest: &[u8], start: usize) -> Result<u64, Refusal> {
+    match rest.try_into() {
+        Ok(bytes) => Ok(u64::from_le_bytes(bytes)),
+        Err(_) => Err(Refusal(1, start + rest.len().min(8))),
+    }
+}
+
+fn cents(number: u64, place: usize) -> Result<u32, Refusal> {
+    if number > MOST_CENTS { Err(Refusal(2, place)) } else { Ok(number as u32) }
+}
