@@ -1,8 +1,8 @@
 //! What a job takes at the library and at the rival, by the same bytes: `cargo bench --bench jobs`, and `-- quick` for a
 //! rough run.
 //!
-//! Both are measured in turns, in segments of some 50 microseconds, and of all segments of a job the shortest counts: what
-//! else the machine does only ever makes one longer. Before any is timed, both have answered all of it alike, byte for byte.
+//! Both are measured in turns, in segments of a quarter of a millisecond or more, which are all alike, and of all segments
+//! of a job the shortest counts: what else the machine does only ever makes one longer. Before any is timed, both have answered all of it alike, byte for byte.
 
 mod estates;
 mod library;
@@ -16,11 +16,15 @@ use library::Library;
 use rival::Rival;
 
 const COUNTS: [usize; 4] = [16, 64, 256, 1024];
-/// How long a segment is to be at the side that takes longer.
-const SEGMENT: Duration = Duration::from_micros(50);
+/// How long a segment is to be at the side that takes longer, and how many there are of a row in a row.
+const SEGMENT: Duration = Duration::from_micros(250);
+const BURST: usize = 8;
+/// How many claims are proved of an estate.
+const PROVES: usize = 128;
 
 trait Desk: Sized {
     fn open(limit: usize) -> Self;
+    fn reopen(&mut self);
     fn call(&mut self, call: &[u8], answer: &mut [u8]) -> i64;
     fn level(&self, there: u64) -> (u64, u64);
     const LEVEL: bool;
@@ -29,6 +33,9 @@ trait Desk: Sized {
 impl Desk for Library {
     fn open(limit: usize) -> Self {
         Library::open(limit).expect("a desk")
+    }
+    fn reopen(&mut self) {
+        Library::reopen(self);
     }
     #[inline(always)]
     fn call(&mut self, call: &[u8], answer: &mut [u8]) -> i64 {
@@ -49,6 +56,9 @@ impl Desk for Library {
 impl Desk for Rival {
     fn open(limit: usize) -> Self {
         Rival::open(limit).expect("a desk")
+    }
+    fn reopen(&mut self) {
+        Rival::reopen(self);
     }
     #[inline(always)]
     fn call(&mut self, call: &[u8], answer: &mut [u8]) -> i64 {
@@ -90,12 +100,30 @@ fn estates_of(count: usize) -> Vec<Estate> {
         Estate {
             claims: amounts.iter().map(|&cents| claim(cents)).collect(),
             comes: all_come(all * percent / 100),
-            proves: (0..2048).map(|_| prove(seed.below(count as u64), kind.claim(seed))).collect(),
+            proves: proves_of(count, kind, seed),
             theres: (0..1024).map(|_| seed.below(all + 1)).collect(),
         }
     };
     let mut seed = Seed::new(count as u64);
     KINDS.iter().flat_map(|&kind| [(kind, false), (kind, true)]).map(|(kind, losses)| of(kind, losses, &mut seed)).collect()
+}
+
+/// Claims at some places are proved, all of these again and again, so that the last have changed all that the first change.
+fn proves_of(count: usize, kind: Kind, seed: &mut Seed) -> Vec<Vec<u8>> {
+    let mut places: Vec<u64> = (0..count as u64).collect();
+    let mut shuffled = |places: &mut [u64]| {
+        for place in 1..places.len() {
+            places.swap(place, seed.below(place as u64 + 1) as usize);
+        }
+    };
+    shuffled(&mut places);
+    places.truncate(PROVES / 2);
+    let mut all = Vec::new();
+    while all.len() < PROVES {
+        shuffled(&mut places);
+        all.extend_from_slice(&places);
+    }
+    all.iter().map(|&place| prove(place, kind.claim(seed))).collect()
 }
 
 /// One side of a job at so many creditors.
@@ -105,7 +133,7 @@ struct Side<D> {
     /// Empty desks, a few of each estate, for claims.
     empty: Vec<D>,
     answer: Vec<u8>,
-    at: usize,
+    least: f64,
 }
 
 impl<D: Desk> Side<D> {
@@ -118,7 +146,13 @@ impl<D: Desk> Side<D> {
             }
             desk
         };
-        Side { count, desks: estates.iter().map(made).collect(), empty: Vec::new(), answer, at: 0 }
+        Side { count, desks: estates.iter().map(made).collect(), empty: Vec::new(), answer, least: f64::INFINITY }
+    }
+
+    /// Each of the estates once, so that it is at hand, and then a segment that counts.
+    fn round(&mut self, job: Job, estates: &[Estate], times: usize) {
+        self.segment(job, estates, estates.len());
+        self.least = self.least.min(self.segment(job, estates, times));
     }
 
     /// Takes the time of a job that is done about so many times; of one of them.
@@ -129,8 +163,9 @@ impl<D: Desk> Side<D> {
         let (rounds, taken) = match job {
             Job::Claim => {
                 let copies = times.div_ceil(self.count * estates.len());
-                self.empty.clear();
-                self.empty.extend((0..copies * estates.len()).map(|_| D::open(self.count)));
+                self.empty.truncate(copies * estates.len());
+                self.empty.iter_mut().for_each(D::reopen);
+                self.empty.resize_with(copies * estates.len(), || D::open(self.count));
                 let start = Instant::now();
                 for (desk, estate) in self.empty.iter_mut().zip(estates.iter().cycle()) {
                     for call in &estate.claims {
@@ -140,16 +175,16 @@ impl<D: Desk> Side<D> {
                 (copies * estates.len() * self.count, start.elapsed())
             }
             Job::Prove => {
-                let each = times.div_ceil(estates.len()).min(2048);
-                let from = self.at % 2048;
-                self.at += each;
+                let rounds = times.div_ceil(estates.len() * PROVES);
                 let start = Instant::now();
-                for (desk, estate) in desks.iter_mut().zip(estates) {
-                    for call in estate.proves.iter().cycle().skip(from).take(each) {
-                        black_box(desk.call(black_box(call), black_box(answer)));
+                for _ in 0..rounds {
+                    for (desk, estate) in desks.iter_mut().zip(estates) {
+                        for call in &estate.proves {
+                            black_box(desk.call(black_box(call), black_box(answer)));
+                        }
                     }
                 }
-                (each * estates.len(), start.elapsed())
+                (rounds * estates.len() * PROVES, start.elapsed())
             }
             Job::Come => {
                 let each = times.div_ceil(estates.len());
@@ -184,6 +219,43 @@ impl<D: Desk> Side<D> {
             }
         };
         taken.as_secs_f64() * 1e9 / rounds as f64
+    }
+}
+
+/// A job at so many creditors, at both.
+struct Row<'a> {
+    job: Job,
+    count: usize,
+    estates: &'a [Estate],
+    library: Side<Library>,
+    rival: Side<Rival>,
+    /// How often in one segment.
+    times: usize,
+    rounds: usize,
+}
+
+impl<'a> Row<'a> {
+    /// As many times in one segment as take that long at the side that takes longer.
+    fn new(job: Job, count: usize, estates: &'a [Estate]) -> Self {
+        let (mut library, mut rival) = (Side::new(count, estates), Side::new(count, estates));
+        let mut times = estates.len();
+        loop {
+            let slower = Side::segment(&mut library, job, estates, times).max(rival.segment(job, estates, times));
+            if slower * times as f64 >= SEGMENT.as_nanos() as f64 / 2.0 || times > 1 << 20 {
+                let times = (SEGMENT.as_nanos() as f64 / slower).ceil() as usize;
+                return Row { job, count, estates, library, rival, times, rounds: 0 };
+            }
+            times *= 2;
+        }
+    }
+
+    fn burst(&mut self) {
+        let Row { job, estates, times, .. } = *self;
+        for _ in 0..BURST {
+            self.library.round(job, estates, times);
+            self.rival.round(job, estates, times);
+        }
+        self.rounds += BURST;
     }
 }
 
@@ -237,7 +309,6 @@ fn main() {
         .filter(|&job| job != Job::Level || Library::LEVEL)
         .collect();
     let time = Duration::from_secs_f64(if quick { 8.0 } else { 75.0 });
-    let each = time / (JOBS.len() * COUNTS.len()) as u32;
 
     let unknown = || "?".to_string();
     println!(
@@ -254,28 +325,20 @@ fn main() {
     for (count, estates) in &made {
         compare(*count, estates);
     }
-    for &job in &jobs {
-        for (count, estates) in &made {
-            let mut library = Side::<Library>::new(*count, estates);
-            let mut rival = Side::<Rival>::new(*count, estates);
-            // How often in one segment: as often as takes that long at the slower side.
-            let mut times = estates.len();
-            loop {
-                let slower = library.segment(job, estates, times).max(rival.segment(job, estates, times));
-                if slower * times as f64 >= SEGMENT.as_nanos() as f64 / 2.0 || times > 1 << 20 {
-                    times = (SEGMENT.as_nanos() as f64 / slower).ceil() as usize;
-                    break;
-                }
-                times *= 2;
-            }
-            let (mut least, mut others) = (f64::INFINITY, f64::INFINITY);
-            let start = Instant::now();
-            while start.elapsed() < each {
-                least = least.min(library.segment(job, estates, times));
-                others = others.min(rival.segment(job, estates, times));
-            }
-            let name = format!("{job:?}").to_lowercase();
-            println!("| {name} | {count} | {least:.1} | {others:.1} | {:.2} |", least / others);
+    let mut rows: Vec<Row> = jobs
+        .iter()
+        .flat_map(|&job| made.iter().map(move |(count, estates)| Row::new(job, *count, estates)))
+        .collect();
+    // All rows in turns, so that none falls into a slow time alone.
+    let start = Instant::now();
+    while start.elapsed() < time {
+        for row in &mut rows {
+            row.burst();
         }
     }
+    for Row { job, count, library, rival, .. } in &rows {
+        let name = format!("{job:?}").to_lowercase();
+        println!("| {name} | {count} | {:.1} | {:.1} | {:.2} |", library.least, rival.least, library.least / rival.least);
+    }
+    println!("\nThe shortest of {} segments of each.", rows[0].rounds);
 }

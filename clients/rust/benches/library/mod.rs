@@ -32,15 +32,22 @@ pub struct Level {
 }
 
 pub struct Library {
+    limit: usize,
     memory: Vec<u64>,
 }
 
 impl Library {
     pub fn open(limit: usize) -> Result<Library, i64> {
         let words = unsafe { c::vullades_words(limit) };
-        let mut memory = vec![0; usize::try_from(words).map_err(|_| words)?];
-        let opened = unsafe { c::vullades_open(memory.as_mut_ptr(), memory.len(), limit) };
-        if opened < 0 { Err(opened) } else { Ok(Library { memory }) }
+        let memory = vec![0; usize::try_from(words).map_err(|_| words)?];
+        let mut library = Library { limit, memory };
+        let opened = library.reopen();
+        if opened < 0 { Err(opened) } else { Ok(library) }
+    }
+
+    /// As it was when it was opened.
+    pub fn reopen(&mut self) -> i64 {
+        unsafe { c::vullades_open(self.memory.as_mut_ptr(), self.memory.len(), self.limit) }
     }
 
     #[inline(always)]

@@ -56,6 +56,14 @@ impl Rival {
         Ok(Rival { limit, there: 0, claims: Vec::with_capacity(limit), sorted: Vec::with_capacity(limit), sums })
     }
 
+    /// As it was when it was opened.
+    pub fn reopen(&mut self) {
+        self.there = 0;
+        self.claims.clear();
+        self.sorted.clear();
+        self.sums.truncate(1);
+    }
+
     /// Answers a call: how long the answer is, or the refusal.
     #[inline(never)]
     pub fn call(&mut self, call: &[u8], answer: &mut [u8]) -> i64 {
@@ -177,12 +185,12 @@ impl Rival {
         answer[1..9].copy_from_slice(&(2 * among).max(1).to_le_bytes());
         answer[9..17].copy_from_slice(&(self.claims.len() as u64).to_le_bytes());
         let among = among as u32;
-        let times = |claim: u32, among: u32| u64::from(claim) * u64::from(among);
         let rows = &mut answer[17..];
+        let all_of = |claim: u32| u64::from(claim) * u64::from(among);
         if losses {
-            list(&self.claims, rows, |c| times(c, 2 * among) - if c < from { times(c, among) } else { spread });
+            list(&self.claims, rows, |c| 2 * all_of(c) - if c < from { all_of(c) } else { spread });
         } else {
-            list(&self.claims, rows, |c| if c < from { times(c, among) } else { spread });
+            list(&self.claims, rows, |c| if c < from { all_of(c) } else { spread });
         }
         17 + 8 * self.claims.len()
     }
