@@ -91,7 +91,8 @@ struct Estate {
     theres: Vec<u64>,
 }
 
-/// One of each kind on both sides of half.
+/// As many of each kind on both sides of half; more where they are small, so that what a processor foretells of branches is
+/// not all of a job learnt by heart.
 fn estates_of(count: usize) -> Vec<Estate> {
     let of = |kind: Kind, losses: bool, seed: &mut Seed| {
         let amounts: Vec<u64> = (0..count).map(|_| kind.claim(seed)).collect();
@@ -105,7 +106,14 @@ fn estates_of(count: usize) -> Vec<Estate> {
         }
     };
     let mut seed = Seed::new(count as u64);
-    KINDS.iter().flat_map(|&kind| [(kind, false), (kind, true)]).map(|(kind, losses)| of(kind, losses, &mut seed)).collect()
+    let each = match count {
+        ..=16 => 8,
+        ..=64 => 4,
+        ..=256 => 2,
+        _ => 1,
+    };
+    let kinds = KINDS.iter().flat_map(|&kind| [(kind, false), (kind, true)]);
+    kinds.cycle().take(2 * KINDS.len() * each).map(|(kind, losses)| of(kind, losses, &mut seed)).collect()
 }
 
 /// Claims at some places are proved, all of these again and again, so that the last have changed all that the first change.

@@ -15,7 +15,7 @@ mod c {
         ) -> i64;
     }
 
-    /// Of a small archive besides: the level alone, of the words of a desk behind its header.
+    // Of a small archive besides: the level alone, of the words of a desk behind its header.
     #[cfg(feature = "level")]
     #[link(name = "measured", kind = "static")]
     unsafe extern "C" {

@@ -106,6 +106,7 @@ impl Rival {
         }
     }
 
+    #[inline(never)]
     fn claim(&mut self, cents: u32) {
         let at = self.sorted.partition_point(|&claim| claim <= cents);
         self.claims.push(cents);
@@ -118,18 +119,17 @@ impl Rival {
     }
 
     /// A claim of `old` is one of `new` from now on: keeps the order and the sums.
+    #[inline(never)]
     fn moved(&mut self, old: u32, new: u32) {
         if old < new {
             let from = self.sorted.partition_point(|&claim| claim <= old) - 1;
             let to = self.sorted.partition_point(|&claim| claim < new) - 1;
             self.sorted.copy_within(from + 1..=to, from);
             self.sorted[to] = new;
-            let mut after = self.sums[from + 1];
-            for k in from + 1..=to {
-                after = self.sums[k + 1];
-                self.sums[k] = after - u64::from(old);
+            let mut after = self.sums[to + 1];
+            for sum in self.sums[from + 1..=to].iter_mut().rev() {
+                after = std::mem::replace(sum, after - u64::from(old));
             }
-            let _ = after;
             for sum in &mut self.sums[to + 1..] {
                 *sum += u64::from(new - old);
             }
@@ -164,13 +164,15 @@ impl Rival {
         let target = 2 * divided.min(all - divided);
         // How many are filled before the others are level: the least k for which what all have, filled up to the next
         // claim, is not too little.
+        let sorted = &self.sorted[..];
+        let too_little = |k: usize| sums[k] + (count - k) as u64 * u64::from(sorted[k]) < target;
         let (mut k, mut rest) = (0, count);
-        while rest > 0 {
+        while rest > 1 {
             let half = rest / 2;
-            let mid = k + half;
-            let filled = sums[mid] + (count - mid) as u64 * u64::from(self.sorted[mid]);
-            (k, rest) = if filled < target { (mid + 1, rest - half - 1) } else { (k, half) };
+            k = std::hint::select_unpredictable(too_little(k + half), k + half, k);
+            rest -= half;
         }
+        k += usize::from(k < count && too_little(k));
         Terms {
             losses: divided > all - divided,
             spread: target - sums[k],
