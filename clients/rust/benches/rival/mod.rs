@@ -181,6 +181,7 @@ impl Rival {
         }
     }
 
+    #[inline(never)]
     fn shares(&self, answer: &mut [u8]) -> usize {
         let Terms { losses, spread, among, from } = self.terms(self.there);
         answer[0] = 2;
@@ -197,6 +198,7 @@ impl Rival {
         17 + 8 * self.claims.len()
     }
 
+    #[inline(never)]
     fn cents(&self, answer: &mut [u8]) -> usize {
         let Terms { losses, spread, among, from } = self.terms(self.there);
         let count = self.claims.len();
