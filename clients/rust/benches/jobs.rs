@@ -1,8 +1,9 @@
 //! What a job takes at the library and at the rival, by the same bytes: `cargo bench --bench jobs`, and `-- quick` for a
 //! rough run.
 //!
-//! Both are measured in turns, in segments of a quarter of a millisecond or more, which are all alike, and of all segments
-//! of a job the shortest counts: what else the machine does only ever makes one longer. Before any is timed, both have answered all of it alike, byte for byte.
+//! Both are measured in turns, in segments of a quarter of a millisecond or more that do the same each time, and of all
+//! segments of a job the shortest counts: what else the machine does only ever makes one longer. Before any is timed, both
+//! have answered all of it alike, byte for byte.
 
 mod estates;
 mod library;
@@ -91,8 +92,8 @@ struct Estate {
     theres: Vec<u64>,
 }
 
-/// As many of each kind on both sides of half; more where they are small, so that what a processor foretells of branches is
-/// not all of a job learnt by heart.
+/// As many of each kind on both sides of half; more where they are small, so that the processor does not learn by heart
+/// which way each branch goes.
 fn estates_of(count: usize) -> Vec<Estate> {
     let of = |kind: Kind, losses: bool, seed: &mut Seed| {
         let amounts: Vec<u64> = (0..count).map(|_| kind.claim(seed)).collect();
@@ -106,12 +107,7 @@ fn estates_of(count: usize) -> Vec<Estate> {
         }
     };
     let mut seed = Seed::new(count as u64);
-    let each = match count {
-        ..=16 => 8,
-        ..=64 => 4,
-        ..=256 => 2,
-        _ => 1,
-    };
+    let each = (512 / count).clamp(1, 8);
     let kinds = KINDS.iter().flat_map(|&kind| [(kind, false), (kind, true)]);
     kinds.cycle().take(2 * KINDS.len() * each).map(|(kind, losses)| of(kind, losses, &mut seed)).collect()
 }
@@ -333,10 +329,8 @@ fn main() {
     for (count, estates) in &made {
         compare(*count, estates);
     }
-    let mut rows: Vec<Row> = jobs
-        .iter()
-        .flat_map(|&job| made.iter().map(move |(count, estates)| Row::new(job, *count, estates)))
-        .collect();
+    let mut rows: Vec<Row> =
+        jobs.iter().flat_map(|&job| made.iter().map(move |(count, estates)| Row::new(job, *count, estates))).collect();
     // All rows in turns, so that none falls into a slow time alone.
     let start = Instant::now();
     while start.elapsed() < time {
@@ -346,7 +340,12 @@ fn main() {
     }
     for Row { job, count, library, rival, .. } in &rows {
         let name = format!("{job:?}").to_lowercase();
-        println!("| {name} | {count} | {:.1} | {:.1} | {:.2} |", library.least, rival.least, library.least / rival.least);
+        println!(
+            "| {name} | {count} | {:.1} | {:.1} | {:.2} |",
+            library.least,
+            rival.least,
+            library.least / rival.least
+        );
     }
     println!("\nThe shortest of {} segments of each.", rows[0].rounds);
 }

@@ -19,7 +19,13 @@ mod c {
     #[cfg(feature = "level")]
     #[link(name = "measured", kind = "static")]
     unsafe extern "C" {
-        pub fn measured_level(ledger: *const u64, words: usize, count: usize, there: u64, level: *mut super::Level) -> bool;
+        pub fn measured_level(
+            ledger: *const u64,
+            words: usize,
+            count: usize,
+            there: u64,
+            level: *mut super::Level,
+        ) -> bool;
     }
 }
 
