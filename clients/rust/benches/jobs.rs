@@ -22,6 +22,8 @@ const SEGMENT: Duration = Duration::from_micros(250);
 const BURST: usize = 8;
 /// How many claims are proved of an estate.
 const PROVES: usize = 128;
+/// At how much there the level of an estate is asked for.
+const THERES: usize = 256;
 
 trait Desk: Sized {
     fn open(limit: usize) -> Self;
@@ -103,7 +105,7 @@ fn estates_of(count: usize) -> Vec<Estate> {
             claims: amounts.iter().map(|&cents| claim(cents)).collect(),
             comes: all_come(all * percent / 100),
             proves: proves_of(count, kind, seed),
-            theres: (0..1024).map(|_| seed.below(all + 1)).collect(),
+            theres: (0..THERES).map(|_| seed.below(all + 1)).collect(),
         }
     };
     let mut seed = Seed::new(count as u64);
@@ -201,14 +203,16 @@ impl<D: Desk> Side<D> {
                 (each * estates.len(), start.elapsed())
             }
             Job::Level => {
-                let each = times.div_ceil(estates.len()).min(1024);
+                let rounds = times.div_ceil(estates.len() * THERES);
                 let start = Instant::now();
-                for (desk, estate) in desks.iter().zip(estates) {
-                    for &there in &estate.theres[..each] {
-                        black_box(black_box(desk).level(black_box(there)));
+                for _ in 0..rounds {
+                    for (desk, estate) in desks.iter().zip(estates) {
+                        for &there in &estate.theres {
+                            black_box(black_box(desk).level(black_box(there)));
+                        }
                     }
                 }
-                (each * estates.len(), start.elapsed())
+                (rounds * estates.len() * THERES, start.elapsed())
             }
             Job::Shares | Job::Cents => {
                 let call = if job == Job::Shares { SHARES } else { CENTS };
