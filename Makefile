@@ -10,19 +10,17 @@ LIBRARY = build/libvullades.a
 SANITIZE = -g -O1 -fsanitize=address,undefined -fno-sanitize-recover=all
 INTO = $(DESTDIR)$(PREFIX)
 
-.PHONY: all lib install uninstall clean
+.PHONY: all test bench install uninstall clean FORCE
 .DELETE_ON_ERROR:
 
 all: $(LIBRARY) build/clerk
 
-# The library is built elsewhere, by the toolchain that proves it, and is only looked for here. Where the crate is, `lib` has
-#	cd crates/vullades && rt lib
-# and the rule below, so that what did not change is not linked again,
-#	cmp -s crates/vullades/out/libvullades.a $@ || cp crates/vullades/out/libvullades.a $@
-$(LIBRARY): lib
-	@test -f $@
-
-lib:
+# rt builds a library only when each of its functions is proved; it keeps what it proved, and looks at what changed. What did
+# not change is not copied, so that nothing is linked again.
+build/lib%.a: FORCE
+	@mkdir -p build
+	cd crates/$* && rt lib
+	cmp -s crates/$*/out/lib$*.a $@ || cp crates/$*/out/lib$*.a $@
 
 build/clerk: $(SOURCES) $(HEADERS) $(LIBRARY)
 	$(CC) -std=c11 -Iinclude $(CFLAGS) $(LDFLAGS) -o $@ $(SOURCES) $(LIBRARY)
@@ -43,6 +41,15 @@ install: all
 uninstall:
 	rm -f $(INTO)/bin/clerk $(INTO)/include/vullades.h $(INTO)/lib/libvullades.a $(INTO)/lib/pkgconfig/vullades.pc
 
-# The library stays, since to make it takes a proof.
+# The clerks' program and the library, driven by the tests in Rust. The benchmark takes over a minute, on a machine that does
+# nothing else.
+test: all build/clerk-asan
+	cd clients/rust && cargo test --release --offline
+
+bench: $(LIBRARY) build/libmeasured.a
+	cd clients/rust && cargo bench --offline --features level
+
 clean:
-	rm -f build/clerk build/clerk-asan
+	rm -rf build clients/rust/target
+
+FORCE:
