@@ -83,7 +83,7 @@ impl Header {
             Call::Shares => return send(&self.division(mem).answer(), out),
             Call::Cents => return self.cents(mem, out),
         };
-        send(&Answer::<Shares>::Number(number), out)
+        send(&Answer::<&[u64]>::Number(number), out)
     }
 }
 

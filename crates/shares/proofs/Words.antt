@@ -1,10 +1,11 @@
 -- Shares in words. Assumes nothing.
 use Rattle.std.proofs.Common.{◌≡◌, ℕ, zero, suc, ◌+◌, ◌<◌, ◌≤◌, List, [], ◌∷◌, ◌++◌, map, length, get_or, take, drop, slice_set, sym, ◌∙◌, arith}
-use Rattle.std.proofs.lemmas.List.{length-map, get_or-map}
+use Rattle.std.proofs.lemmas.List.{length-map, get_or-map, take_all}
 use Rattle.std.proofs.lemmas.Grind.{elements}
 use Rattle.std.proofs.lemmas.Option.{slice_get-map}
 use Rattle.level.specs.declared.closed.Terms.{Terms}
 use Rattle.wire.specs.Bytes.{Fitting}
+use Rattle.wire.proofs.Bytes.{put_more, length-flat_map}
 use Rattle.shares.specs.Shares.{share_word}
 
 pub fits : (t : Terms) (cs : List ℕ) → Fitting (map (share_word t) cs)
@@ -20,5 +21,7 @@ pub share_at : (i x : ℕ) (t : Terms) (cs : List ℕ) → i < length cs → x �
 share_at i x t cs lt e = e ∙ sym (get_or-map (share_word t) cs i 0 0 lt)
 
 pub ruleset write_steps = (word_more, share_at, length-map)
+
+pub ruleset put_steps = (put_more, share_at, take_all, length-map, length-flat_map)
 
 pub ruleset get = (slice_get-map)

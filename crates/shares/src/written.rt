@@ -15,9 +15,11 @@ pub fn share(terms: Terms, claim: u64) -> u64
     ensures { result ≡ share_word terms claim }
 {
     let whole = product(terms.level.denominator, claim);
+    // Not `min`, of which the compiler makes a branch that no processor can foretell.
+    let above = whole.saturating_sub(terms.level.numerator);
     match terms.side {
-        Side::Gains => whole.min(terms.level.numerator),
-        Side::Losses => whole.saturating_add(whole.saturating_sub(terms.level.numerator)),
+        Side::Gains => whole - above,
+        Side::Losses => whole.saturating_add(above),
     }
 }
 
@@ -47,6 +49,20 @@ impl Numbers for Shares<'_> {
     fn get(&self, i: usize) -> Option<u64> {
         let claim = self.claims.get(i)?;
         Some(share(self.terms, *claim))
+    }
+
+    #[tactic(auto, using(crate::proofs::Words::put_steps), unfolding(wire::specs::Bytes::eight))]
+    fn put(&self, out: &mut [u8]) -> Result<usize, Refusal> {
+        // Copied, since what is lent would be read anew for each claim.
+        let Shares { terms, claims } = *self;
+        let end = 8 * claims.len();
+        if out.len() < end {
+            return Err(Refusal::NotLent);
+        }
+        for (i, claim) in claims.iter().enumerate() {
+            out[8 * i..8 * i + 8].copy_from_slice(&share(terms, *claim).to_le_bytes());
+        }
+        Ok(end)
     }
 }
 

@@ -1,11 +1,13 @@
 -- Numbers to bytes and back. Assumes nothing.
-use Rattle.std.proofs.Common.{◌≡◌, ℕ, zero, suc, ◌+◌, ◌-◌, ◌*◌, ◌/◌, ◌%◌, ◌^◌, ◌<◌, ◌≤◌, List, [], ◌∷◌, ◌++◌, length, get_or, take, drop, slice_set, Some, None, sym, refl, ap, subst, arith, length-drop, length-take, append_assoc, length-append, take-append-drop}
+use Rattle.std.proofs.Common.{◌≡◌, ℕ, zero, suc, ◌+◌, ◌-◌, ◌*◌, ◌/◌, ◌%◌, ◌^◌, ◌<◌, ◌≤◌, List, [], ◌∷◌, ◌++◌, length, get_or, take, drop, slice_set, Some, None, sym, refl, ap, subst, arith, length-drop, length-take, append_assoc, ◌∙◌, Ok, Err, Result, length-append, take-append-drop}
 use borrow.Rule.Slice.PartMut.{put_mid}
-use Rattle.std.specs.List.{flat_map, slice_get}
+use Rattle.std.specs.List.{flat_map}
 use Rattle.std.proofs.lemmas.List.{places, drop-drop, length-take-le, nil_from_length, set_split, take_more, take_all, drop_all, append-nil, take_at, drop_at, flat_map_more}
-use Rattle.std.proofs.lemmas.Option.{slice_get_within, slice_get-get_or, get_or_from_slice_get}
 use Rattle.std.proofs.lemmas.Nat.{le_bytes_8, from_le_bytes-to_le_bytes_8}
 use Rattle.std.proofs.lemmas.Grind.{common_steps, flat_map-append}
+use Rattle.std.specs.Result.{IsOk}
+use Rattle.wire.specs.Written.{Written}
+use Rattle.wire.specs.declared.refusals.Refusal.{Refusal}
 use Rattle.wire.specs.Bytes.{Bytes, Fitting, eight, number_at, numbers, row}
 
 pub fitting_more : (n : ℕ) (ns : List ℕ) → n < 2 ^ 64 → Fitting ns → Fitting (n ∷ ns)
@@ -68,18 +70,23 @@ flat_map-push ns n = sym (flat_map_more eight [] ns n)
 
 -- numbers are written one behind the other, as long as there is one at i
 module _ (i : ℕ) (ns before out : List ℕ) (h : out ≡ flat_map eight (take i ns) ++ drop (8 * i) before) where
-  pub put_more : (n : ℕ) (bytes : List ℕ) → Some n ≡ slice_get ns i → bytes ≡ eight n → put_mid (8 * i) (8 * i + 8 - 8 * i) out bytes ≡ flat_map eight (take (i + 1) ns) ++ drop (8 * (i + 1)) before
-  put_more n bytes some eights =
-      let lt : i < length ns = slice_get_within ns i n (sym some) in
-      let number : get_or ns i 0 ≡ n = get_or_from_slice_get ns i n 0 (sym some) in
-      rw (h, eights, take_more ns i 0 lt, number, flat_map-push) (grind (arith, common_steps, length-flat_map))
+  pub put_more : (n : ℕ) (bytes : List ℕ) → i < length ns → n ≡ get_or ns i 0 → bytes ≡ eight n → put_mid (8 * i) (8 * i + 8 - 8 * i) out bytes ≡ flat_map eight (take (i + 1) ns) ++ drop (8 * (i + 1)) before
+  put_more n bytes some is eights =
+      rw (h, eights, take_more ns i 0 some, is, flat_map-push) (grind (arith, common_steps, length-flat_map))
 
-  pub put_all : None ≡ slice_get ns i → length before ≡ 8 * length ns → out ≡ flat_map eight ns
-  put_all none full =
-      let end : length ns ≤ i = grind (arith, none, slice_get-get_or ns i 0) in
-      rw (h, take_all i ns end, drop_all (8 * i) before (omega arith)) (append-nil (flat_map eight ns))
+-- there is room for numbers in bytes that they just fill, and these are then their bytes
+module _ (ns old new : List ℕ) (full : length old ≡ 8 * length ns) where
+  pub fills : (r : Result ℕ Refusal) → Written (flat_map eight ns) old new r → IsOk r
+  fills (Ok n) w = refl
+  fills (Err why) w = absurd (omega (arith, w.short, full, length-flat_map ns))
 
-pub ruleset put_steps = (put_more, put_all)
+  pub filled : (r : Result ℕ Refusal) → Written (flat_map eight ns) old new r → new ≡ flat_map eight ns
+  filled (Ok n) w = w.holds ∙ rw (drop_all n old (omega (arith, w.long, full, length-flat_map ns))) (append-nil (flat_map eight ns))
+  filled (Err why) w = absurd (omega (arith, w.short, full, length-flat_map ns))
+
+pub ruleset just_filled = (fills, filled)
+
+pub ruleset put_steps = (put_more, take_all, length-flat_map)
 
 pub length-row : (k : ℕ) (ns : List ℕ) → length (row k ns) ≡ 1 + 8 * length ns
 unfolding row

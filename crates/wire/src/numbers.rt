@@ -2,7 +2,9 @@
 ghost use Rattle.std.specs.Prelude.{◌≡◌, ℕ, ◌*◌, ◌^◌, ◌<◌, List, length, slice_get};
 ghost use Rattle.std.specs.List.{flat_map};
 ghost use Rattle.wire.specs.Bytes.{Fitting, eight};
+ghost use Rattle.wire.specs.Written.{Written};
 
+use crate::refusals::Refusal;
 use std::convert::AsSlice;
 
 // A list of numbers: one that is held, or one that is worked out number by number as it is written.
@@ -19,6 +21,10 @@ pub trait Numbers {
     // The number at a place, if there is one.
     fn get(&self, i: usize) -> Option<u64>
         ensures { result ≡ slice_get (items self.now) i };
+
+    // Writes them at the start of lent bytes, eight bytes each, low byte first, and says how many bytes these are.
+    fn put(&self, out: &mut [u8]) -> Result<usize, Refusal>
+        ensures { Written (flat_map eight (items self.now)) out.old out.new result };
 }
 
 impl<L: AsSlice<u64>> Numbers for L {
@@ -33,19 +39,19 @@ impl<L: AsSlice<u64>> Numbers for L {
     fn get(&self, i: usize) -> Option<u64> {
         self.as_slice().get(i).copied()
     }
-}
 
-// Writes numbers one behind the other into bytes that they just fill, eight bytes each, low byte first.
-#[tactic(auto, using(crate::proofs::Bytes::put_steps), unfolding(crate::specs::Bytes::eight))]
-pub(crate) fn put_numbers<L: Numbers>(out: &mut [u8], list: &L)
-    requires { length out.old ≡ 8 * length (L.items list.now) }
-    ensures { out.new ≡ flat_map eight (L.items list.now) }
-{
-    let mut i = 0;
-    // By index: of a slice lent out in mutable chunks a proof knows only the length afterwards, and while it is lent piece
-    // by piece (`split_first_chunk_mut`) an invariant has no word for what it holds.
-    while let Some(n) = list.get(i) {
-        out[8 * i..8 * i + 8].copy_from_slice(&n.to_le_bytes());
-        i += 1;
+    #[tactic(auto, using(crate::proofs::Bytes::put_steps), unfolding(crate::specs::Bytes::eight))]
+    fn put(&self, out: &mut [u8]) -> Result<usize, Refusal> {
+        let list = self.as_slice();
+        let end = 8 * list.len();
+        if out.len() < end {
+            return Err(Refusal::NotLent);
+        }
+        // By index: of a slice lent out in mutable chunks a proof knows only the length afterwards, and while it is lent
+        // piece by piece (`split_first_chunk_mut`) an invariant has no word for what it holds.
+        for (i, n) in list.iter().enumerate() {
+            out[8 * i..8 * i + 8].copy_from_slice(&n.to_le_bytes());
+        }
+        Ok(end)
     }
 }

@@ -1,9 +1,10 @@
 // Numbers in rows of bytes, eight bytes each, low byte first.
-ghost use Rattle.std.specs.Prelude.{◌≡◌, ◌+◌, ◌/◌, ◌≤◌, ◌++◌, length, IfOk};
-ghost use Rattle.wire.specs.Bytes.{Fitting, number_at, numbers, row};
+ghost use Rattle.std.specs.List.{flat_map};
+ghost use Rattle.std.specs.Prelude.{◌≡◌, ◌+◌, ◌*◌, ◌/◌, ◌≤◌, ◌++◌, length, IfOk};
+ghost use Rattle.wire.specs.Bytes.{Fitting, eight, number_at, numbers, row};
 ghost use Rattle.wire.specs.Written.{Written};
 
-use crate::numbers::{Numbers, put_numbers};
+use crate::numbers::Numbers;
 use crate::refusals::Refusal;
 use std::alloc::{AllocError, Global};
 
@@ -13,6 +14,15 @@ pub(crate) fn number_at(bytes: &[u8], at: usize) -> u64
     ensures { result ≡ number_at bytes.now at }
 {
     u64::from_le_bytes(*bytes[at..].first_chunk().unwrap())
+}
+
+// Writes numbers into bytes that they just fill.
+#[tactic(auto, using(crate::proofs::Bytes::just_filled))]
+fn fill<L: Numbers>(out: &mut [u8], list: &L)
+    requires { length out.old ≡ 8 * length (L.items list.now) }
+    ensures { out.new ≡ flat_map eight (L.items list.now) }
+{
+    list.put(out).unwrap();
 }
 
 // Writes a row at the start of lent bytes: the byte of its kind, the numbers of its head and, in the part behind them, those
@@ -34,8 +44,8 @@ pub(crate) fn put_list<L: Numbers>(
         return Err(Refusal::NotLent);
     }
     out[0] = kind;
-    put_numbers(&mut out[1..start], &head);
-    put_numbers(&mut out[start..end], list);
+    fill(&mut out[1..start], &head);
+    fill(&mut out[start..end], list);
     Ok(end)
 }
 
