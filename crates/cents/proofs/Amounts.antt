@@ -2,11 +2,12 @@
 use Rattle.std.proofs.Common.{◌≡◌, ◌≢◌, ℕ, zero, suc, ◌-◌, ◌*◌, ◌/◌, ◌%◌, ◌<◌, ◌≤◌, Bool, true, false, List, [], ◌∷◌, length, get_or, slice_get, refl, ap, sym, arith, cond}
 use Rattle.std.proofs.Math.Nat.{le-mul_of_pos_right, zero-mod}
 use Rattle.std.proofs.lemmas.Option.{gets, slice_get_past}
-use Rattle.std.proofs.lemmas.List.{get_or_past}
+use Rattle.std.proofs.lemmas.List.{get_or_past, take_all}
 use Rattle.std.specs.Option.{option_map}
 use Rattle.std.proofs.lemmas.Grind.{div_ceil_times}
 use Rattle.estate.specs.Cents.{one_more}
 use Rattle.wire.specs.Bytes.{Fitting}
+use Rattle.wire.proofs.Bytes.{put_more, length-flat_map}
 use Rattle.shares.proofs.Words.{word_more}
 use Rattle.cents.specs.Rounding.{rounded, rounded_all, lack}
 
@@ -83,3 +84,5 @@ pub ruleset get = (slice_get-rounded_all)
 pub ruleset lack_steps = (gets, lack_past)
 
 pub ruleset write = (word_more, gets)
+
+pub ruleset put = (put_more, gets, take_all, length-flat_map)

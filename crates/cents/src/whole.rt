@@ -65,6 +65,20 @@ impl<L: Numbers> Numbers for Cents<L> {
             share / self.rounding.parts
         })
     }
+
+    #[tactic(auto, using(crate::proofs::Amounts::put), unfolding(wire::specs::Bytes::eight))]
+    fn put(&self, out: &mut [u8]) -> Result<usize, Refusal> {
+        let count = self.count();
+        let end = 8 * count;
+        if out.len() < end {
+            return Err(Refusal::NotLent);
+        }
+        for i in 0..count {
+            let cents = self.get(i).unwrap();
+            out[8 * i..8 * i + 8].copy_from_slice(&cents.to_le_bytes());
+        }
+        Ok(end)
+    }
 }
 
 impl<L: Numbers + Drop> Cents<L> {
