@@ -1,6 +1,6 @@
 /*
- * Vullades: an estate in lent memory, which answers calls. The library is libvullades.a; it allocates nothing, keeps nothing
- * between calls, and calls nothing but memset, memcpy and memmove.
+ * Vullades: an estate in lent memory, which answers calls. The library is libvullades.a. It allocates nothing and keeps nothing
+ * between calls; of others it calls only what a compiler for C calls by itself (memset and the like, division of 128 bits).
  *
  * A desk lives in 64-bit words that the caller lends: as many as vullades_words says, opened once by vullades_open, lent again
  * with each vullades_call, and moved or copied as the caller likes. A call is a row of bytes, and so is its answer.
@@ -83,9 +83,9 @@ int64_t vullades_open(uint64_t *memory, size_t words, size_t limit);
 int64_t vullades_call(uint64_t *memory, size_t words, const uint8_t *call, size_t length, uint8_t *answer, size_t bytes);
 
 /* Of a number below 0: the refusal and its place. */
-static inline int vullades_refusal(int64_t answered) { return (int)((uint64_t)-answered >> 32); }
+static inline int vullades_refusal(int64_t answered) { return (int)((0 - (uint64_t)answered) >> 32); }
 
-static inline uint32_t vullades_place(int64_t answered) { return (uint32_t)-answered; }
+static inline uint32_t vullades_place(int64_t answered) { return (uint32_t)(0 - (uint64_t)answered); }
 
 #ifdef __cplusplus
 }
