@@ -14,7 +14,6 @@ ghost use Rattle.wire.specs.Written.{Written};
 use crate::kinds::CallKind;
 use crate::refusals::{Garbled, Place, Refusal};
 use crate::rows::{number_at, put};
-use std::cmp::Ordering;
 
 #[derive(Clone, Copy, Debug, PartialEq, Eq)]
 pub enum Call {
@@ -117,11 +116,12 @@ fn kind_of(bytes: &[u8]) -> Result<CallKind, Garbled>
     let Ok(kind) = CallKind::try_from(*first) else {
         return Err(Garbled(0));
     };
-    match bytes.len().cmp(&kind.extent()) {
-        Ordering::Less => Err(Garbled(bytes.len() as Place)),
-        Ordering::Equal => Ok(kind),
-        Ordering::Greater => Err(Garbled(kind.extent() as Place)),
+    let extent = kind.extent();
+    if bytes.len() != extent {
+        // the first that is missing, or the first too many
+        return Err(Garbled(bytes.len().min(extent) as Place));
     }
+    Ok(kind)
 }
 
 // The place that stands in a row of bytes. Every place of 2^32 and more is the last of 32 bits: no claim is at either, so a
