@@ -48,12 +48,8 @@ impl Held {
     fn open(random: &mut Random, job: usize) -> Held {
         let claims = some_claims(random, job);
         let count = claims.len() as u64;
-        let limit = random.one_of(&[
-            count,
-            count,
-            MOST_CREDITORS,
-            random.between(count, MOST_CREDITORS),
-        ]);
+        let more = random.between(count, MOST_CREDITORS);
+        let limit = random.one_of(&[count, count, more, MOST_CREDITORS]);
         let mut desk = Desk::open(limit as usize).expect("a desk");
         for (place, &claim) in claims.iter().enumerate() {
             assert_eq!(
@@ -73,7 +69,9 @@ impl Held {
         let most = self.claims.len().min(20);
         for _ in 0..random.size(most) {
             let place = random.size(self.claims.len() - 1);
-            let claim = random.one_of(&[self.claims[0], random.up_to(MOST_CENTS), random.up_to(9)]);
+            let most = random.one_of(&[9, MOST_CENTS]);
+            let any = random.up_to(most);
+            let claim = random.one_of(&[self.claims[0], any]);
             self.claims[place] = claim;
             let place = place as u64;
             assert_eq!(
@@ -88,7 +86,8 @@ impl Held {
         let wanted = some_there(random, self.claims.iter().sum(), kind);
         while self.there < wanted {
             let left = (wanted - self.there).min(MOST_CENTS);
-            let cents = random.one_of(&[left, left, left, random.between(1, left)]);
+            let some = random.between(1, left);
+            let cents = random.one_of(&[left, left, left, some]);
             self.there += cents;
             assert_eq!(
                 self.desk.call(&Call::Come(cents)),
