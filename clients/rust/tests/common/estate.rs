@@ -32,8 +32,11 @@ pub const NO_ROOM: Reply = Reply::Refused(5, 0);
 
 impl Reply {
     /// The number that says a refusal.
-    pub fn number(why: u32, place: u32) -> i64 {
-        -((i64::from(why) << 32) + i64::from(place))
+    pub fn refusal(self) -> Option<i64> {
+        match self {
+            Reply::Refused(why, place) => Some(-((i64::from(why) << 32) + i64::from(place))),
+            _ => None,
+        }
     }
 }
 

@@ -77,7 +77,7 @@ pub fn anything(random: &mut Random, most: usize) -> Vec<u64> {
 }
 
 /// A limit: of so many creditors, of more, or one at which what a desk asks for passes a word.
-fn any_limit(random: &mut Random, most: usize) -> u64 {
+pub fn any_limit(random: &mut Random, most: usize) -> u64 {
     match random.up_to(15) {
         0 => MOST_CREDITORS + 1,
         1 => random.one_of(&[u64::MAX, 1 << 61, 1 << 63, u64::MAX / 3 - 20, 1 << 32]),

@@ -25,7 +25,7 @@ const PAGE: usize = 4096;
 
 /// Where in a room something stands.
 #[derive(Clone, Copy, Debug, PartialEq, Eq)]
-pub enum Stand {
+enum Stand {
     /// At the start: the byte before it cannot be touched.
     First,
     /// At the end: the byte behind it cannot be touched.
@@ -34,21 +34,20 @@ pub enum Stand {
     Between,
 }
 
-pub const STANDS: [Stand; 3] = [Stand::First, Stand::Last, Stand::Between];
-
-/// Bytes between two such pages. A part of them is lent, and others stand around it.
+/// Bytes between two such pages. A part of them is lent, and noise stands around it.
 pub struct Room {
     start: *mut u8,
     length: usize,
     lent: Range<usize>,
+    stand: Stand,
     noise: Vec<u8>,
     before: Vec<u8>,
 }
 
 impl Room {
-    /// A room of so many pages.
-    pub fn new(pages: usize, random: &mut Random) -> Room {
-        let length = pages * PAGE;
+    /// A room for so many bytes, of whole pages.
+    pub fn new(most: usize, random: &mut Random) -> Room {
+        let length = most.next_multiple_of(PAGE);
         let noise: Vec<u8> = random.bytes(length).iter().map(|byte| byte | 1).collect();
         let start = between_guards(length);
         let before = noise.clone();
@@ -56,34 +55,41 @@ impl Room {
             start,
             length,
             lent: 0..0,
+            stand: Stand::First,
             noise,
             before,
         }
     }
 
-    /// Lends so many bytes at a place where words may stand, or bytes that end with the room. All hold noise.
-    pub fn lend(&mut self, length: usize, stand: Stand) {
-        let from = match stand {
+    /// Lends so many bytes somewhere. All of the room holds noise, no byte of which is 0.
+    pub fn lend(&mut self, length: usize, random: &mut Random) {
+        self.stand = random.one_of(&[Stand::First, Stand::Last, Stand::Between]);
+        let from = match self.stand {
             Stand::First => 0,
             Stand::Last => self.length - length,
             Stand::Between => (self.length - length) / 16 * 8,
         };
         self.lent = from..from + length;
-        let noise = ptr::from_ref(self.noise.as_slice()).cast();
-        // SAFETY: the room and the noise have the same length, and are two.
-        unsafe { ptr::copy_nonoverlapping(noise, self.start, self.length) }
+        // SAFETY: the room and the noise are two, and of one length.
+        unsafe { ptr::copy_nonoverlapping(self.noise.as_ptr(), self.start, self.length) }
     }
 
     /// Lends these bytes.
-    pub fn lend_bytes(&mut self, bytes: &[u8], stand: Stand) {
-        self.lend(bytes.len(), stand);
-        self.lent_mut().copy_from_slice(bytes);
+    pub fn lend_bytes(&mut self, bytes: &[u8], random: &mut Random) {
+        self.lend(bytes.len(), random);
+        // SAFETY: as many bytes are lent, in the room.
+        unsafe { ptr::copy_nonoverlapping(bytes.as_ptr(), self.at(), bytes.len()) }
     }
 
     /// Lends these words.
-    pub fn lend_words(&mut self, words: &[u64], stand: Stand) {
+    pub fn lend_words(&mut self, words: &[u64], random: &mut Random) {
         let bytes: Vec<u8> = words.iter().flat_map(|word| word.to_ne_bytes()).collect();
-        self.lend_bytes(&bytes, stand);
+        self.lend_bytes(&bytes, random);
+    }
+
+    /// Whether the byte before what is lent, or the one behind it, cannot be touched.
+    pub fn is_guarded(&self) -> bool {
+        self.stand != Stand::Between
     }
 
     /// Where what is lent begins.
@@ -111,9 +117,8 @@ impl Room {
 
     /// Keeps what the room holds, to compare with it.
     pub fn keep(&mut self) {
-        // SAFETY: the room lies between the guards, and nobody writes it meanwhile.
-        let now = unsafe { slice::from_raw_parts(self.start, self.length) };
-        self.before.copy_from_slice(now);
+        // SAFETY: the room and what is kept are two, and of one length.
+        unsafe { ptr::copy_nonoverlapping(self.start, self.before.as_mut_ptr(), self.length) }
     }
 
     /// Whether all is as it was kept, but for so many bytes at the start of what is lent.
@@ -126,11 +131,6 @@ impl Room {
     fn all(&self) -> &[u8] {
         // SAFETY: the room lies between the guards, and is borrowed.
         unsafe { slice::from_raw_parts(self.start, self.length) }
-    }
-
-    fn lent_mut(&mut self) -> &mut [u8] {
-        // SAFETY: what is lent lies in the room, and the room is borrowed.
-        unsafe { slice::from_raw_parts_mut(self.at(), self.lent.len()) }
     }
 }
 
