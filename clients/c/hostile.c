@@ -39,7 +39,10 @@ static size_t up_to(size_t most) { return (size_t)(any_word() % (most + 1)); }
 static bool one_in(size_t times) { return up_to(times - 1) == 0; }
 
 /* A word of few or many binary digits. */
-static uint64_t any_size(void) { return any_word() >> up_to(63); }
+static uint64_t any_size(void) {
+    uint64_t word = any_word();
+    return word >> up_to(63);
+}
 
 static void fail(const char *what, long call) {
     fprintf(stderr, "call %ld: %s\n", call, what);
@@ -82,7 +85,11 @@ static void put(unsigned char *at, uint64_t number) {
 
 static uint64_t any_cents(void) { return one_in(8) ? any_size() : up_to(one_in(2) ? 9 : VULLADES_MOST_CENTS); }
 
-static uint64_t any_place(void) { return one_in(4) ? (any_size() << 32) + up_to(MOST_LIMIT) : up_to(MOST_LIMIT / 4); }
+/* A place where a claim may be, or one of which that is so only in its low bits. */
+static uint64_t any_place(void) {
+    uint64_t high = one_in(4) ? any_size() << 32 : 0;
+    return high + up_to(MOST_LIMIT / 4);
+}
 
 /* A call: mostly one that can be read, otherwise a changed one, or any bytes. */
 static struct block any_call(void) {
@@ -97,7 +104,8 @@ static struct block any_call(void) {
         put(bytes + 9, any_cents());
     }
     if (one_in(16)) length = up_to(MOST_LENGTH);
-    if (one_in(16)) bytes[up_to(MOST_LENGTH - 1)] ^= (unsigned char)(1u << up_to(7));
+    size_t flipped = one_in(16) ? up_to(16) : MOST_LENGTH;
+    if (flipped < MOST_LENGTH) bytes[flipped] ^= (unsigned char)(1u << up_to(7));
     struct block call = lend(length);
     memcpy(call.lent, bytes, length);
     return call;
@@ -117,7 +125,8 @@ static struct block any_memory(void) {
     if (!right) fail("a desk is opened otherwise", 0);
     if (!is_kept_but(&memory, opened < 0 ? 0 : 8 * (size_t)opened)) fail("opening wrote other words", 0);
     for (size_t flips = one_in(4) ? up_to(4) : 0; flips > 0 && words > 2; flips--) {
-        at[up_to(one_in(4) ? 2 : words - 1)] ^= UINT64_C(1) << up_to(63);
+        size_t place = up_to(one_in(4) ? 2 : words - 1);
+        at[place] ^= UINT64_C(1) << up_to(63);
     }
     return memory;
 }
