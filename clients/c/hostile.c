@@ -111,7 +111,7 @@ static struct block any_call(void) {
     return call;
 }
 
-/* Memory: a desk, or any words, of which the first may be a desk's; of the words of a desk some may be others. */
+/* Memory: a desk where nothing or much is there, or any words, of which the first may be a desk's; some of them changed. */
 static struct block any_memory(void) {
     size_t limit = up_to(MOST_LIMIT);
     size_t words = one_in(4) ? up_to(64 + 3 * MOST_LIMIT) : (size_t)vullades_words(limit) + up_to(2);
@@ -124,6 +124,7 @@ static struct block any_memory(void) {
     bool right = opened == 0 || opened == (words < 64 + 3 * limit ? -(INT64_C(3) << 32) - 1 : (int64_t)(64 + 3 * limit));
     if (!right) fail("a desk is opened otherwise", 0);
     if (!is_kept_but(&memory, opened < 0 ? 0 : 8 * (size_t)opened)) fail("opening wrote other words", 0);
+    if (opened > 0 && one_in(2)) at[1] = VULLADES_MOST_THERE - up_to(VULLADES_MOST_CENTS);
     for (size_t flips = one_in(4) ? up_to(4) : 0; flips > 0 && words > 2; flips--) {
         size_t place = up_to(one_in(4) ? 2 : words - 1);
         at[place] ^= UINT64_C(1) << up_to(63);
@@ -172,7 +173,8 @@ static bool once(struct block *memory, long number) {
     for (size_t i = 0; i < answer.length; i++) answer.lent[i] = (unsigned char)(any_word() | 1);
     keep(memory), keep(&call), keep(&answer);
     uint64_t *at = (uint64_t *)(void *)memory->lent;
-    int64_t answered = vullades_call(at, words, call.lent, call.length, answer.lent, answer.length);
+    const unsigned char *sent = call.length > 0 ? call.lent : NULL;
+    int64_t answered = vullades_call(at, words, sent, call.length, answer.lent, answer.length);
     const char *fault = wrong(answered, memory, &call, &answer);
     if (fault != NULL) fail(fault, number);
     bool kept = take_back(&call) & take_back(&answer);

@@ -6,6 +6,7 @@
 pub mod asking;
 pub mod estate;
 pub mod garbage;
+pub mod judging;
 pub mod lent;
 pub mod random;
 pub mod room;
