@@ -111,6 +111,14 @@ static struct block any_call(void) {
     return call;
 }
 
+/* Changes a few words, by a bit. */
+static void change(uint64_t *at, size_t words) {
+    for (size_t left = 1 + up_to(3); left > 0; left--) {
+        size_t place = up_to(one_in(4) ? 2 : words - 1);
+        at[place] ^= UINT64_C(1) << up_to(63);
+    }
+}
+
 /* Memory: a desk where nothing or much is there, or any words, of which the first may be a desk's; some of them changed. */
 static struct block any_memory(void) {
     size_t limit = up_to(MOST_LIMIT);
@@ -125,10 +133,7 @@ static struct block any_memory(void) {
     if (!right) fail("a desk is opened otherwise", 0);
     if (!is_kept_but(&memory, opened < 0 ? 0 : 8 * (size_t)opened)) fail("opening wrote other words", 0);
     if (opened > 0 && one_in(2)) at[1] = VULLADES_MOST_THERE - up_to(VULLADES_MOST_CENTS);
-    for (size_t flips = one_in(4) ? up_to(4) : 0; flips > 0 && words > 2; flips--) {
-        size_t place = up_to(one_in(4) ? 2 : words - 1);
-        at[place] ^= UINT64_C(1) << up_to(63);
-    }
+    if (words > 2 && one_in(4)) change(at, words);
     return memory;
 }
 
