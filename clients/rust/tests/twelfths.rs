@@ -7,7 +7,7 @@ use common::work;
 use vullades::{Answer, Call, Desk};
 
 /// The most cents that one claims.
-const MOST: u64 = 27;
+const MOST: u64 = 26;
 
 /// How many parts of a cent are tried: halves, thirds, quarters and sixths are among them.
 const TWELFTHS: u64 = 12;

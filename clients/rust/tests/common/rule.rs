@@ -10,9 +10,9 @@ fn without(all: u64, some: u64) -> u64 {
 pub fn divide_as_two(claims: [u64; 2], parts: [u64; 2]) -> bool {
     let both = parts[0] + parts[1];
     let left = [without(both, claims[1]), without(both, claims[0])];
-    both <= claims[0] + claims[1]
-        && 2 * parts[0] + left[1] == both + left[0]
+    2 * parts[0] + left[1] == both + left[0]
         && 2 * parts[1] + left[0] == both + left[1]
+        && both <= claims[0] + claims[1]
 }
 
 /// Whether the first divides with each of the others as two do.
