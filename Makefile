@@ -28,6 +28,9 @@ build/clerk: $(SOURCES) $(HEADERS) $(LIBRARY)
 build/clerk-asan: $(SOURCES) $(HEADERS) $(LIBRARY)
 	gcc -std=c11 -Iinclude $(SANITIZE) -o $@ $(SOURCES) $(LIBRARY)
 
+build/hostile: clients/c/hostile.c include/vullades.h $(LIBRARY)
+	gcc -std=c11 -Iinclude $(SANITIZE) -o $@ clients/c/hostile.c $(LIBRARY)
+
 install: all
 	install -d $(INTO)/bin $(INTO)/include $(INTO)/lib/pkgconfig
 	install -m 755 build/clerk $(INTO)/bin/clerk
@@ -41,9 +44,10 @@ install: all
 uninstall:
 	rm -f $(INTO)/bin/clerk $(INTO)/include/vullades.h $(INTO)/lib/libvullades.a $(INTO)/lib/pkgconfig/vullades.pc
 
-# The clerks' program and the library, driven by the tests in Rust. The benchmark takes over a minute, on a machine that does
+# The library and the clerks' program, driven from Rust and from C. The benchmark takes over a minute, on a machine that does
 # nothing else.
-test: all build/clerk-asan
+test: all build/clerk-asan build/hostile
+	build/hostile
 	cd clients/rust && cargo test --release --offline
 
 bench: $(LIBRARY) build/libmeasured.a

@@ -1,6 +1,6 @@
 /*
- * The clerk: reads claims and what is there as text, a command a line, and answers in words. Answers go to standard output,
- * and why a line is not done to standard error.
+ * The clerk: reads claims and what is there as text, a command a line, and answers in words. Answers go to standard
+ * output, and why a line is not done to standard error.
  */
 #define _POSIX_C_SOURCE 200809L /* for isatty and fileno: NOLINT(bugprone-reserved-identifier) */
 

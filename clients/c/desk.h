@@ -1,6 +1,6 @@
 /*
- * A desk in memory of its own, over libvullades.a. What the library answers is looked at before it is used: what cannot come
- * is told as DESK_BROKEN, and then the desk can only be closed.
+ * A desk in memory of its own, over libvullades.a. What the library answers is looked at before it is used: what cannot
+ * come is told as DESK_BROKEN, and then the desk can only be closed.
  */
 #ifndef DESK_H
 #define DESK_H

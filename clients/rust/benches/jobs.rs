@@ -84,7 +84,14 @@ enum Job {
     Cents,
 }
 
-const JOBS: [Job; 6] = [Job::Claim, Job::Prove, Job::Come, Job::Level, Job::Shares, Job::Cents];
+const JOBS: [Job; 6] = [
+    Job::Claim,
+    Job::Prove,
+    Job::Come,
+    Job::Level,
+    Job::Shares,
+    Job::Cents,
+];
 
 /// The calls that make an estate, and what is asked of it.
 struct Estate {
@@ -100,7 +107,11 @@ fn estates_of(count: usize) -> Vec<Estate> {
     let of = |kind: Kind, losses: bool, seed: &mut Seed| {
         let amounts: Vec<u64> = (0..count).map(|_| kind.claim(seed)).collect();
         let all: u64 = amounts.iter().sum();
-        let percent = if losses { 55 + seed.below(40) } else { 5 + seed.below(40) };
+        let percent = if losses {
+            55 + seed.below(40)
+        } else {
+            5 + seed.below(40)
+        };
         Estate {
             claims: amounts.iter().map(|&cents| claim(cents)).collect(),
             comes: all_come(all * percent / 100),
@@ -111,7 +122,11 @@ fn estates_of(count: usize) -> Vec<Estate> {
     let mut seed = Seed::new(count as u64);
     let each = (512 / count).clamp(1, 8);
     let kinds = KINDS.iter().flat_map(|&kind| [(kind, false), (kind, true)]);
-    kinds.cycle().take(2 * KINDS.len() * each).map(|(kind, losses)| of(kind, losses, &mut seed)).collect()
+    kinds
+        .cycle()
+        .take(2 * KINDS.len() * each)
+        .map(|(kind, losses)| of(kind, losses, &mut seed))
+        .collect()
 }
 
 /// Claims at some places are proved, all of these again and again, so that the last have changed all that the first change.
@@ -129,7 +144,9 @@ fn proves_of(count: usize, kind: Kind, seed: &mut Seed) -> Vec<Vec<u8>> {
         shuffled(&mut places);
         all.extend_from_slice(&places);
     }
-    all.iter().map(|&place| prove(place, kind.claim(seed))).collect()
+    all.iter()
+        .map(|&place| prove(place, kind.claim(seed)))
+        .collect()
 }
 
 /// One side of a job at so many creditors.
@@ -152,7 +169,13 @@ impl<D: Desk> Side<D> {
             }
             desk
         };
-        Side { count, desks: estates.iter().map(made).collect(), empty: Vec::new(), answer, least: f64::INFINITY }
+        Side {
+            count,
+            desks: estates.iter().map(made).collect(),
+            empty: Vec::new(),
+            answer,
+            least: f64::INFINITY,
+        }
     }
 
     /// Each of the estates once, so that it is at hand, and then a segment that counts.
@@ -171,7 +194,8 @@ impl<D: Desk> Side<D> {
                 let copies = times.div_ceil(self.count * estates.len());
                 self.empty.truncate(copies * estates.len());
                 self.empty.iter_mut().for_each(D::reopen);
-                self.empty.resize_with(copies * estates.len(), || D::open(self.count));
+                self.empty
+                    .resize_with(copies * estates.len(), || D::open(self.count));
                 let start = Instant::now();
                 for (desk, estate) in self.empty.iter_mut().zip(estates.iter().cycle()) {
                     for call in &estate.claims {
@@ -248,17 +272,31 @@ impl<'a> Row<'a> {
         let (mut library, mut rival) = (Side::new(count, estates), Side::new(count, estates));
         let mut times = estates.len();
         loop {
-            let slower = Side::segment(&mut library, job, estates, times).max(rival.segment(job, estates, times));
+            let slower = Side::segment(&mut library, job, estates, times)
+                .max(rival.segment(job, estates, times));
             if slower * times as f64 >= SEGMENT.as_nanos() as f64 / 2.0 || times > 1 << 20 {
                 let times = (SEGMENT.as_nanos() as f64 / slower).ceil() as usize;
-                return Row { job, count, estates, library, rival, times, rounds: 0 };
+                return Row {
+                    job,
+                    count,
+                    estates,
+                    library,
+                    rival,
+                    times,
+                    rounds: 0,
+                };
             }
             times *= 2;
         }
     }
 
     fn burst(&mut self) {
-        let Row { job, estates, times, .. } = *self;
+        let Row {
+            job,
+            estates,
+            times,
+            ..
+        } = *self;
         for _ in 0..BURST {
             self.library.round(job, estates, times);
             self.rival.round(job, estates, times);
@@ -270,12 +308,20 @@ impl<'a> Row<'a> {
 /// Both answer all of it alike, before and behind every change.
 fn compare(count: usize, estates: &[Estate]) {
     for (number, estate) in estates.iter().enumerate() {
-        let (mut library, mut rival) = (<Library as Desk>::open(count), <Rival as Desk>::open(count));
+        let (mut library, mut rival) =
+            (<Library as Desk>::open(count), <Rival as Desk>::open(count));
         let (mut one, mut other) = (vec![0xa5; 24 + 8 * count], vec![0xa5; 24 + 8 * count]);
         let mut both = |call: &[u8]| {
             let answered = library.call(call, &mut one);
-            assert_eq!(answered, rival.call(call, &mut other), "{call:?}, {count} creditors, estate {number}");
-            assert!(answered > 0, "{answered}: {call:?}, {count} creditors, estate {number}");
+            assert_eq!(
+                answered,
+                rival.call(call, &mut other),
+                "{call:?}, {count} creditors, estate {number}"
+            );
+            assert!(
+                answered > 0,
+                "{answered}: {call:?}, {count} creditors, estate {number}"
+            );
             assert!(one == other, "{call:?}, {count} creditors, estate {number}");
         };
         let last = come(1);
@@ -290,14 +336,21 @@ fn compare(count: usize, estates: &[Estate]) {
         }
         if Library::LEVEL {
             for &there in &estate.theres {
-                assert_eq!(Desk::level(&library, there), Desk::level(&rival, there), "{there}, estate {number}");
+                assert_eq!(
+                    Desk::level(&library, there),
+                    Desk::level(&rival, there),
+                    "{there}, estate {number}"
+                );
             }
         }
     }
 }
 
 fn command(name: &str, arguments: &[&str]) -> Option<String> {
-    let output = std::process::Command::new(name).args(arguments).output().ok()?;
+    let output = std::process::Command::new(name)
+        .args(arguments)
+        .output()
+        .ok()?;
     Some(String::from_utf8(output.stdout).ok()?.trim().to_string())
 }
 
@@ -308,9 +361,15 @@ fn processor() -> Option<String> {
 }
 
 fn main() {
-    let words: Vec<String> = std::env::args().skip(1).filter(|word| !word.starts_with("--")).collect();
+    let words: Vec<String> = std::env::args()
+        .skip(1)
+        .filter(|word| !word.starts_with("--"))
+        .collect();
     let quick = words.iter().any(|word| word == "quick") || std::env::var_os("QUICK").is_some();
-    let only: Vec<Job> = JOBS.into_iter().filter(|job| words.contains(&format!("{job:?}").to_lowercase())).collect();
+    let only: Vec<Job> = JOBS
+        .into_iter()
+        .filter(|job| words.contains(&format!("{job:?}").to_lowercase()))
+        .collect();
     let jobs: Vec<Job> = JOBS
         .into_iter()
         .filter(|job| only.is_empty() || only.contains(job))
@@ -333,8 +392,13 @@ fn main() {
     for (count, estates) in &made {
         compare(*count, estates);
     }
-    let mut rows: Vec<Row> =
-        jobs.iter().flat_map(|&job| made.iter().map(move |(count, estates)| Row::new(job, *count, estates))).collect();
+    let mut rows: Vec<Row> = jobs
+        .iter()
+        .flat_map(|&job| {
+            made.iter()
+                .map(move |(count, estates)| Row::new(job, *count, estates))
+        })
+        .collect();
     // All rows in turns, so that none falls into a slow time alone.
     let start = Instant::now();
     while start.elapsed() < time {
@@ -342,7 +406,14 @@ fn main() {
             row.burst();
         }
     }
-    for Row { job, count, library, rival, .. } in &rows {
+    for Row {
+        job,
+        count,
+        library,
+        rival,
+        ..
+    } in &rows
+    {
         let name = format!("{job:?}").to_lowercase();
         println!(
             "| {name} | {count} | {:.1} | {:.1} | {:.2} |",

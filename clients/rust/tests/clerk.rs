@@ -43,7 +43,11 @@ fn build() -> PathBuf {
 
 fn clerk(name: &str, arguments: &[&str]) -> Command {
     let mut command = Command::new(build().join(name));
-    command.args(arguments).stdin(Stdio::piped()).stdout(Stdio::piped()).stderr(Stdio::piped());
+    command
+        .args(arguments)
+        .stdin(Stdio::piped())
+        .stdout(Stdio::piped())
+        .stderr(Stdio::piped());
     for options in ["ASAN_OPTIONS", "UBSAN_OPTIONS", "LSAN_OPTIONS"] {
         command.env(options, format!("exitcode={SANITIZER}"));
     }
@@ -51,9 +55,12 @@ fn clerk(name: &str, arguments: &[&str]) -> Command {
 }
 
 fn start(command: &mut Command) -> Child {
-    command
-        .spawn()
-        .unwrap_or_else(|error| panic!("{:?}: {error}; `make all build/clerk-asan` builds it", command.get_program()))
+    command.spawn().unwrap_or_else(|error| {
+        panic!(
+            "{:?}: {error}; `make all build/clerk-asan` builds it",
+            command.get_program()
+        )
+    })
 }
 
 /// Runs a program on an input; what it wrote, what it complained of, and its status.
@@ -89,7 +96,11 @@ fn session(arguments: &[&str], input: impl AsRef<[u8]>, out: &str, err: &str, st
 fn three_tables() {
     let claims = "claim 100\nclaim 200\nclaim 300\n";
     let claimed = "creditor 0 claims 100\ncreditor 1 claims 200\ncreditor 2 claims 300\n";
-    let each = |amounts: [&str; 3]| -> String { (0..3).map(|i| format!("creditor {i}: {}\n", amounts[i])).collect() };
+    let each = |amounts: [&str; 3]| -> String {
+        (0..3)
+            .map(|i| format!("creditor {i}: {}\n", amounts[i]))
+            .collect()
+    };
     for (there, shares, cents) in [
         (0, ["0", "0", "0"], ["0", "0", "0"]),
         (1, ["1/3", "1/3", "1/3"], ["1", "0", "0"]),
@@ -105,9 +116,19 @@ fn three_tables() {
         (600, ["100", "200", "300"], ["100", "200", "300"]),
         (700, ["100", "200", "300"], ["100", "200", "300"]),
     ] {
-        let came = if there == 1 { "there is 1 cent".into() } else { format!("there are {there} cents") };
+        let came = if there == 1 {
+            "there is 1 cent".into()
+        } else {
+            format!("there are {there} cents")
+        };
         let out = format!("{claimed}{came}\n{}{}", each(shares), each(cents));
-        session(&[], format!("{claims}come {there}\nshares\ncents\n"), &out, "", 0);
+        session(
+            &[],
+            format!("{claims}come {there}\nshares\ncents\n"),
+            &out,
+            "",
+            0,
+        );
     }
 }
 
@@ -135,7 +156,10 @@ fn a_garment_that_two_hold() {
 #[test]
 fn a_bank() {
     let savers = |line: &dyn Fn(usize) -> String| -> String { (0..7).map(line).collect() };
-    let input = format!("{}come 100000\nshares\ncents\nclaim 1000000\nshares\n", "claim 25000\n".repeat(7));
+    let input = format!(
+        "{}come 100000\nshares\ncents\nclaim 1000000\nshares\n",
+        "claim 25000\n".repeat(7)
+    );
     let out = savers(&|i| format!("creditor {i} claims 25000\n"))
         + "there are 100000 cents\n"
         + &savers(&|i| format!("creditor {i}: 14285 5/7\n"))
@@ -163,8 +187,11 @@ fn as_many_as_there_may_be() {
 /// Each claims 10^9 cents, and 10^12 are there, of which each of 1,001 has the same: 10^12/1001 cents.
 #[test]
 fn the_largest_amounts() {
-    let mut input = "claim 1000000000\n".repeat(1001) + &"come 1000000000\n".repeat(1000) + "come 1\nshares\n";
-    let mut out: String = (0..1001).map(|i| format!("creditor {i} claims 1000000000\n")).collect();
+    let mut input =
+        "claim 1000000000\n".repeat(1001) + &"come 1000000000\n".repeat(1000) + "come 1\nshares\n";
+    let mut out: String = (0..1001)
+        .map(|i| format!("creditor {i} claims 1000000000\n"))
+        .collect();
     out.extend((1..=1000).map(|i| format!("there are {i}000000000 cents\n")));
     out.extend((0..1001).map(|i| format!("creditor {i}: 999000999 1/1001\n")));
     input += "come 0\ncome 1000000001\n";
@@ -209,8 +236,20 @@ fn what_the_desk_refuses() {
          line 14: 1000000001 cents are too many: at most 1,000,000,000 at once\n",
         1,
     );
-    session(&["-n", "1"], "claim 3\nclaim 4\n", "creditor 0 claims 3\n", "line 2: the desk is for 1 creditor only\n", 1);
-    session(&["-n", "0"], "claim 3\nshares\n", "there are no creditors\n", "line 1: the desk is for 0 creditors only\n", 1);
+    session(
+        &["-n", "1"],
+        "claim 3\nclaim 4\n",
+        "creditor 0 claims 3\n",
+        "line 2: the desk is for 1 creditor only\n",
+        1,
+    );
+    session(
+        &["-n", "0"],
+        "claim 3\nshares\n",
+        "there are no creditors\n",
+        "line 1: the desk is for 0 creditors only\n",
+        1,
+    );
 }
 
 #[test]
@@ -293,8 +332,20 @@ fn blanks_comments_and_other_bytes() {
          line 16: quit? is not a command: help lists them\n",
         1,
     );
-    session(&[], "# nothing behind this feed\n# and none here", "", "", 0);
-    session(&[], "claim 5\nfoo", "creditor 0 claims 5\n", "line 2: foo is not a command: help lists them\n", 1);
+    session(
+        &[],
+        "# nothing behind this feed\n# and none here",
+        "",
+        "",
+        0,
+    );
+    session(
+        &[],
+        "claim 5\nfoo",
+        "creditor 0 claims 5\n",
+        "line 2: foo is not a command: help lists them\n",
+        1,
+    );
 }
 
 #[test]
@@ -303,8 +354,11 @@ fn lines_of_any_length() {
     let fits = format!("claim {}7", "0".repeat(193));
     let word = "x".repeat(200);
     assert_eq!((fits.len(), word.len()), (200, 200));
-    let mut input =
-        format!("{fits}\n0{fits}\n{fits}0\n{fits}\r\n{word}\n{word}x\n{fits}# {}\n", "c".repeat(100_000)).into_bytes();
+    let mut input = format!(
+        "{fits}\n0{fits}\n{fits}0\n{fits}\r\n{word}\n{word}x\n{fits}# {}\n",
+        "c".repeat(100_000)
+    )
+    .into_bytes();
     input.extend(vec![b'x'; 3_000_000]);
     input.extend(b"\nclaim 8\n");
     input.extend(vec![0; 1_000_000]);
@@ -325,10 +379,27 @@ fn lines_of_any_length() {
 #[test]
 fn help_and_quit() {
     session(&[], "help\n", COMMANDS, "", 0);
-    session(&[], "claim 1\n quit # now\nclaim 2\nfoo\n", "creditor 0 claims 1\n", "", 0);
-    session(&[], "foo\nquit\n", "", "line 1: foo is not a command: help lists them\n", 1);
+    session(
+        &[],
+        "claim 1\n quit # now\nclaim 2\nfoo\n",
+        "creditor 0 claims 1\n",
+        "",
+        0,
+    );
+    session(
+        &[],
+        "foo\nquit\n",
+        "",
+        "line 1: foo is not a command: help lists them\n",
+        1,
+    );
     session(&[], "quit", "", "", 0);
-    for arguments in [["-h"].as_slice(), &["--help"], &["-n", "3", "-h"], &["some file", "--help", "-x"]] {
+    for arguments in [
+        ["-h"].as_slice(),
+        &["--help"],
+        &["-n", "3", "-h"],
+        &["some file", "--help", "-x"],
+    ] {
         session(arguments, "claim 1\n", &format!("{HELP}{COMMANDS}"), "", 0);
     }
 }
@@ -347,7 +418,13 @@ fn arguments_that_are_wrong() {
         &["-n", "18446744073709551617"],
         &["-n", "3", "-n"],
     ] {
-        session(arguments, "claim 1\n", "", &format!("clerk: -n needs a number of creditors, at most 1024\n{USAGE}"), 2);
+        session(
+            arguments,
+            "claim 1\n",
+            "",
+            &format!("clerk: -n needs a number of creditors, at most 1024\n{USAGE}"),
+            2,
+        );
     }
     for (arguments, wrong) in [
         (["-x"].as_slice(), "-x is not an option"),
@@ -358,7 +435,13 @@ fn arguments_that_are_wrong() {
         (&["-", "-"], "- is one file too many"),
         (&["--", "-n", "3"], "3 is one file too many"),
     ] {
-        session(arguments, "claim 1\n", "", &format!("clerk: {wrong}\n{USAGE}"), 2);
+        session(
+            arguments,
+            "claim 1\n",
+            "",
+            &format!("clerk: {wrong}\n{USAGE}"),
+            2,
+        );
     }
     session(
         &["-n", "3", "-n", "1"],
@@ -374,26 +457,53 @@ fn files() {
     let folder = std::env::temp_dir().join(format!("clerk-{}", std::process::id()));
     fs::create_dir_all(&folder).expect("a folder");
     let file = folder.join("claims.txt");
-    let (folder, path) = (folder.to_str().expect("a path"), file.to_str().expect("a path").to_owned());
+    let (folder, path) = (
+        folder.to_str().expect("a path"),
+        file.to_str().expect("a path").to_owned(),
+    );
     fs::write(&path, "claim 3\nfoo\nclaim 4\nclaim 5\n").expect("a file");
     let out = "creditor 0 claims 3\ncreditor 1 claims 4\n";
-    let err = "line 2: foo is not a command: help lists them\nline 4: the desk is for 2 creditors only\n";
+    let err =
+        "line 2: foo is not a command: help lists them\nline 4: the desk is for 2 creditors only\n";
     session(&["-n", "2", &path], "come 1\n", out, err, 1);
     session(&[&path, "-n2"], "come 1\n", out, err, 1);
     session(&["-n2", "--", &path], "come 1\n", out, err, 1);
     session(&["-n2", "-"], "come 1\n", "there is 1 cent\n", "", 0);
-    session(&[folder], "come 1\n", "", &format!("clerk: {folder}: Is a directory\n"), 2);
+    session(
+        &[folder],
+        "come 1\n",
+        "",
+        &format!("clerk: {folder}: Is a directory\n"),
+        2,
+    );
     let missing = format!("{folder}/no\u{1}ne");
-    session(&[&missing], "come 1\n", "", &format!("clerk: {folder}/no?ne: No such file or directory\n"), 2);
-    session(&["--", "-n"], "come 1\n", "", "clerk: -n: No such file or directory\n", 2);
+    session(
+        &[&missing],
+        "come 1\n",
+        "",
+        &format!("clerk: {folder}/no?ne: No such file or directory\n"),
+        2,
+    );
+    session(
+        &["--", "-n"],
+        "come 1\n",
+        "",
+        "clerk: -n: No such file or directory\n",
+        2,
+    );
     // Answers and complaints in one file stand in the order of the lines.
     for name in BOTH {
         let both = File::create(&file).expect("a file");
         let mut command = clerk(name, &[]);
-        command.stdout(both.try_clone().expect("a file")).stderr(both);
+        command
+            .stdout(both.try_clone().expect("a file"))
+            .stderr(both);
         let (_, _, status) = run(&mut command, b"claim 1\nfoo\nclaim 2\n");
         let told = fs::read_to_string(&file).expect("a file");
-        assert_eq!(told, "creditor 0 claims 1\nline 2: foo is not a command: help lists them\ncreditor 1 claims 2\n");
+        assert_eq!(
+            told,
+            "creditor 0 claims 1\nline 2: foo is not a command: help lists them\ncreditor 1 claims 2\n"
+        );
         assert_eq!(status.code(), Some(1));
     }
     fs::remove_dir_all(folder).expect("the folder is there");
@@ -403,16 +513,28 @@ fn files() {
 fn nothing_can_be_written() {
     for name in BOTH {
         for (arguments, input) in [([].as_slice(), "claim 1\nfoo\n"), (&["--help"], "")] {
-            let full = OpenOptions::new().write(true).open("/dev/full").expect("a full device");
+            let full = OpenOptions::new()
+                .write(true)
+                .open("/dev/full")
+                .expect("a full device");
             let (_, stderr, status) = run(clerk(name, arguments).stdout(full), input.as_bytes());
-            assert_eq!(text(&stderr), "clerk: standard output: No space left on device\n");
+            assert_eq!(
+                text(&stderr),
+                "clerk: standard output: No space left on device\n"
+            );
             assert_eq!(status.code(), Some(2));
         }
         // So many shares that not all fit into one write.
-        let full = OpenOptions::new().write(true).open("/dev/full").expect("a full device");
+        let full = OpenOptions::new()
+            .write(true)
+            .open("/dev/full")
+            .expect("a full device");
         let many = "#\n".repeat(10) + "help\n" + &"claim 1\n".repeat(1000) + "shares\n";
         let (_, stderr, status) = run(clerk(name, &[]).stdout(full), many.as_bytes());
-        assert_eq!((text(&stderr).as_str(), status.code()), ("clerk: standard output: No space left on device\n", Some(2)));
+        assert_eq!(
+            (text(&stderr).as_str(), status.code()),
+            ("clerk: standard output: No space left on device\n", Some(2))
+        );
     }
 }
 
@@ -512,8 +634,14 @@ fn terminal() -> io::Result<(File, File)> {
         return Err(io::Error::last_os_error());
     }
     // SAFETY: ptsname_r has ended the name with a zero.
-    let path = unsafe { CStr::from_ptr(name.as_ptr()) }.to_str().map_err(io::Error::other)?;
-    let read = OpenOptions::new().read(true).write(true).custom_flags(NOT_OURS).open(path)?;
+    let path = unsafe { CStr::from_ptr(name.as_ptr()) }
+        .to_str()
+        .map_err(io::Error::other)?;
+    let read = OpenOptions::new()
+        .read(true)
+        .write(true)
+        .custom_flags(NOT_OURS)
+        .open(path)?;
     Ok((typed, read))
 }
 
@@ -552,7 +680,11 @@ fn divide(claims: &[u64], there: u64) -> (Vec<u128>, u128) {
     let divided = claimed.min(there.into());
     let by_gains = 2 * divided <= claimed;
     // Vessels as high as the claims are filled up to one level; half of what is in them is gained, or lost.
-    let mut water = if by_gains { 2 * divided } else { 2 * (claimed - divided) };
+    let mut water = if by_gains {
+        2 * divided
+    } else {
+        2 * (claimed - divided)
+    };
     let mut vessels: Vec<u128> = claims.iter().map(|&claim| claim.into()).collect();
     vessels.sort_unstable_by(|a, b| b.cmp(a));
     while let Some(&lowest) = vessels.last() {
@@ -578,8 +710,15 @@ fn in_cents(shares: &[u128], parts: u128) -> Vec<u128> {
     let mut cents: Vec<u128> = shares.iter().map(|share| share / parts).collect();
     let mut lacks: Vec<u128> = shares.iter().map(|share| share % parts).collect();
     for _ in 0..lacks.iter().sum::<u128>() / parts {
-        let most = lacks.iter().copied().max().expect("somebody lacks something");
-        let who = lacks.iter().position(|&lack| lack == most).expect("it is one of them");
+        let most = lacks
+            .iter()
+            .copied()
+            .max()
+            .expect("somebody lacks something");
+        let who = lacks
+            .iter()
+            .position(|&lack| lack == most)
+            .expect("it is one of them");
         cents[who] += 1;
         lacks[who] = 0;
     }
@@ -592,9 +731,16 @@ fn in_words(share: u128, parts: u128) -> String {
     if rest == 0 {
         return whole.to_string();
     }
-    let common = (1..=rest).rev().find(|by| rest.is_multiple_of(*by) && parts.is_multiple_of(*by)).expect("1 divides all");
+    let common = (1..=rest)
+        .rev()
+        .find(|by| rest.is_multiple_of(*by) && parts.is_multiple_of(*by))
+        .expect("1 divides all");
     let fraction = format!("{}/{}", rest / common, parts / common);
-    if whole == 0 { fraction } else { format!("{whole} {fraction}") }
+    if whole == 0 {
+        fraction
+    } else {
+        format!("{whole} {fraction}")
+    }
 }
 
 #[derive(Default)]
@@ -611,7 +757,10 @@ struct Model {
 
 impl Model {
     fn of(limit: usize, input: &[u8]) -> Self {
-        let mut model = Model { limit, ..Model::default() };
+        let mut model = Model {
+            limit,
+            ..Model::default()
+        };
         let input = input.strip_suffix(b"\n").unwrap_or(input);
         for line in input.split(|&byte| byte == b'\n') {
             model.lines += 1;
@@ -632,7 +781,10 @@ impl Model {
     fn answer(&mut self, line: &[u8]) -> Result<&'static str, (&'static str, String)> {
         let line = line.split(|&byte| byte == b'#').next().unwrap_or_default();
         if line.len() > 200 {
-            return Err(("too long", "the line is too long: at most 200 bytes in front of a #".into()));
+            return Err((
+                "too long",
+                "the line is too long: at most 200 bytes in front of a #".into(),
+            ));
         }
         let shown: String = line
             .iter()
@@ -655,37 +807,64 @@ impl Model {
             "help" => ("help", &[]),
             "quit" => ("quit", &[]),
             _ => {
-                return Err(("unknown", format!("{name} is not a command: help lists them")));
+                return Err((
+                    "unknown",
+                    format!("{name} is not a command: help lists them"),
+                ));
             }
         };
         if rest.len() != takes.len() {
-            let (kind, than) = if rest.len() < takes.len() { ("too few", "few") } else { ("too many", "many") };
-            return Err((kind, format!("too {than} words: write {}", [&[name], takes].concat().join(" "))));
+            let (kind, than) = if rest.len() < takes.len() {
+                ("too few", "few")
+            } else {
+                ("too many", "many")
+            };
+            return Err((
+                kind,
+                format!(
+                    "too {than} words: write {}",
+                    [&[name], takes].concat().join(" ")
+                ),
+            ));
         }
         let mut numbers = Vec::new();
         for word in rest {
             if word.bytes().any(|byte| !byte.is_ascii_digit()) {
-                return Err(("no number", format!("{word} is not a number: write digits only")));
+                return Err((
+                    "no number",
+                    format!("{word} is not a number: write digits only"),
+                ));
             }
             match word.parse::<u64>() {
                 Ok(number) => numbers.push(number),
                 Err(_) => {
-                    return Err(("64 bits", format!("{word} is more than a 64-bit number holds")));
+                    return Err((
+                        "64 bits",
+                        format!("{word} is more than a 64-bit number holds"),
+                    ));
                 }
             }
         }
         self.done(kind, &numbers)
     }
 
-    fn done(&mut self, kind: &'static str, numbers: &[u64]) -> Result<&'static str, (&'static str, String)> {
+    fn done(
+        &mut self,
+        kind: &'static str,
+        numbers: &[u64],
+    ) -> Result<&'static str, (&'static str, String)> {
         let count = self.claims.len();
         match (kind, numbers) {
-            (_, [.., cents]) if *cents > 1_000_000_000 => {
-                Err(("too large", format!("{cents} cents are too many: at most 1,000,000,000 at once")))
-            }
+            (_, [.., cents]) if *cents > 1_000_000_000 => Err((
+                "too large",
+                format!("{cents} cents are too many: at most 1,000,000,000 at once"),
+            )),
             ("claim", _) if count == self.limit => {
                 let creditors = if count == 1 { "creditor" } else { "creditors" };
-                Err(("no room", format!("the desk is for {count} {creditors} only")))
+                Err((
+                    "no room",
+                    format!("the desk is for {count} {creditors} only"),
+                ))
             }
             ("claim", &[cents]) => {
                 self.claims.push(cents);
@@ -693,20 +872,26 @@ impl Model {
                 Ok(kind)
             }
             ("prove", &[creditor, cents]) => {
-                let Some(claim) = usize::try_from(creditor).ok().and_then(|place| self.claims.get_mut(place)) else {
+                let Some(claim) = usize::try_from(creditor)
+                    .ok()
+                    .and_then(|place| self.claims.get_mut(place))
+                else {
                     let are = if count == 1 { "is" } else { "are" };
                     return Err((
                         "not there",
-                        format!("there is no creditor {creditor}: there {are} {count}, counted from 0"),
+                        format!(
+                            "there is no creditor {creditor}: there {are} {count}, counted from 0"
+                        ),
                     ));
                 };
                 *claim = cents;
                 self.out += &format!("creditor {creditor} now claims {cents}\n");
                 Ok(kind)
             }
-            ("come", &[cents]) if self.there + cents > 1_000_000_000_000 => {
-                Err(("too rich", "more than 1,000,000,000,000 cents would be there".into()))
-            }
+            ("come", &[cents]) if self.there + cents > 1_000_000_000_000 => Err((
+                "too rich",
+                "more than 1,000,000,000,000 cents would be there".into(),
+            )),
             ("come", &[cents]) => {
                 self.there += cents;
                 self.out += &match self.there {
@@ -717,7 +902,11 @@ impl Model {
             }
             ("shares" | "cents", _) => {
                 let (shares, parts) = divide(&self.claims, self.there);
-                let (amounts, parts) = if kind == "shares" { (shares, parts) } else { (in_cents(&shares, parts), 1) };
+                let (amounts, parts) = if kind == "shares" {
+                    (shares, parts)
+                } else {
+                    (in_cents(&shares, parts), 1)
+                };
                 if amounts.is_empty() {
                     self.out += "there are no creditors\n";
                 }
@@ -743,26 +932,45 @@ fn the_model_divides_as_two_do() {
     let mut uneven = 0;
     for _ in 0..20_000 {
         let most = random.one_of(&[1, 2, 5, 20, 1_000_000_000]);
-        let claims: Vec<u64> = (0..random.below(8)).map(|_| random.below(most + 1)).collect();
+        let claims: Vec<u64> = (0..random.below(8))
+            .map(|_| random.below(most + 1))
+            .collect();
         let claimed: u64 = claims.iter().sum();
         let there = random.below(claimed + claimed / 4 + 2);
         let (shares, parts) = divide(&claims, there);
-        let scaled: Vec<u128> = claims.iter().map(|&claim| u128::from(claim) * parts).collect();
-        assert_eq!(shares.iter().sum::<u128>(), u128::from(there.min(claimed)) * parts, "{claims:?} of {there}");
+        let scaled: Vec<u128> = claims
+            .iter()
+            .map(|&claim| u128::from(claim) * parts)
+            .collect();
+        assert_eq!(
+            shares.iter().sum::<u128>(),
+            u128::from(there.min(claimed)) * parts,
+            "{claims:?} of {there}"
+        );
         for i in 0..claims.len() {
             assert!(shares[i] <= scaled[i], "{claims:?} of {there}");
             for j in 0..i {
                 let together = shares[i] + shares[j];
-                let (only_i, only_j) = (together.saturating_sub(scaled[j]), together.saturating_sub(scaled[i]));
+                let (only_i, only_j) = (
+                    together.saturating_sub(scaled[j]),
+                    together.saturating_sub(scaled[i]),
+                );
                 let both = together - only_i - only_j;
-                assert_eq!(2 * shares[i], 2 * only_i + both, "{claims:?} of {there}: {i} and {j}");
+                assert_eq!(
+                    2 * shares[i],
+                    2 * only_i + both,
+                    "{claims:?} of {there}: {i} and {j}"
+                );
                 uneven += u64::from(shares[i] != shares[j]);
             }
         }
         let cents = in_cents(&shares, parts);
         assert_eq!(cents.iter().sum::<u128>(), u128::from(there.min(claimed)));
         for (cents, share) in cents.iter().zip(&shares) {
-            assert!((cents * parts).abs_diff(*share) < parts, "{claims:?} of {there}");
+            assert!(
+                (cents * parts).abs_diff(*share) < parts,
+                "{claims:?} of {there}"
+            );
         }
     }
     assert!(uneven > 10_000, "{uneven} pairs with different shares");
@@ -805,11 +1013,29 @@ struct Style {
 fn command(random: &mut Random, style: &Style) -> String {
     let lists = if style.limit > 50 { 3 } else { 40 };
     let cents = |random: &mut Random, most: u64| match random.below(40) {
-        0 => random.one_of(&[0, 1, 999_999_999, 1_000_000_000, 1_000_000_001, u64::MAX, 1 << 32, 1 << 63]).to_string(),
+        0 => random
+            .one_of(&[
+                0,
+                1,
+                999_999_999,
+                1_000_000_000,
+                1_000_000_001,
+                u64::MAX,
+                1 << 32,
+                1 << 63,
+            ])
+            .to_string(),
         1 => random
-            .one_of(&["18446744073709551616", "18446744073709551619", "99999999999999999999", "00000000000000000000001"])
+            .one_of(&[
+                "18446744073709551616",
+                "18446744073709551619",
+                "99999999999999999999",
+                "00000000000000000000001",
+            ])
             .into(),
-        2 => random.one_of(&["-1", "1.5", "1,000", "", "ten", "0x1", "1 2", "+5"]).into(),
+        2 => random
+            .one_of(&["-1", "1.5", "1,000", "", "ten", "0x1", "1 2", "+5"])
+            .into(),
         3 => random.next().to_string(),
         _ => random.below(most + 1).to_string(),
     };
@@ -817,7 +1043,9 @@ fn command(random: &mut Random, style: &Style) -> String {
         0..300 => format!("claim {}", cents(random, style.claims)),
         300..600 => {
             let creditor = match random.below(20) {
-                0 => random.one_of(&["4294967296", "18446744073709551615", "1024", "x", "00"]).into(),
+                0 => random
+                    .one_of(&["4294967296", "18446744073709551615", "1024", "x", "00"])
+                    .into(),
                 1 => style.limit.to_string(),
                 _ => random.below(style.limit as u64 + 1).to_string(),
             };
@@ -825,7 +1053,11 @@ fn command(random: &mut Random, style: &Style) -> String {
         }
         600..800 => format!("come {}", cents(random, style.comes)),
         800..810 => "help".into(),
-        810..820 => random.one_of(&["", "#", "   ", "quit it", "shares 1", "cents of", "prove", "claim", "come"]).into(),
+        810..820 => random
+            .one_of(&[
+                "", "#", "   ", "quit it", "shares 1", "cents of", "prove", "claim", "come",
+            ])
+            .into(),
         n if n < 820 + lists => "shares".into(),
         n if n < 820 + 2 * lists => "cents".into(),
         _ => format!("claim {}", random.below(style.claims + 1)),
@@ -851,7 +1083,11 @@ fn mutate(random: &mut Random, line: &mut Vec<u8>) {
         4 => line.extend_from_within(at..),
         5 => line.make_ascii_uppercase(),
         6 => {
-            let word = [b" ".as_slice(), random.one_of(&[b"1".as_slice(), b"x", b"\0", b"claim", b"#", b"\r"])].concat();
+            let word = [
+                b" ".as_slice(),
+                random.one_of(&[b"1".as_slice(), b"x", b"\0", b"claim", b"#", b"\r"]),
+            ]
+            .concat();
             line.splice(at..at, word);
         }
         7 | 8 => {
@@ -871,8 +1107,16 @@ fn commands(random: &mut Random, lines: usize) -> (usize, Vec<u8>) {
     // After all lines about as much is there as is claimed; in some sessions there is almost too much from the first.
     let comes = (claims * limit as u64 / (lines as u64 / 5) + 1).min(1_000_000_000);
     let rich = random.below(8) == 0;
-    let style = Style { limit, claims, comes: if rich { 1_000_000_000 } else { comes } };
-    let mut input = if rich { b"come 1000000000\n".repeat(990) } else { Vec::new() };
+    let style = Style {
+        limit,
+        claims,
+        comes: if rich { 1_000_000_000 } else { comes },
+    };
+    let mut input = if rich {
+        b"come 1000000000\n".repeat(990)
+    } else {
+        Vec::new()
+    };
     for _ in 0..lines {
         let mut line = command(random, &style).into_bytes();
         for _ in 0..random.one_of(&[0, 0, 0, 0, 0, 0, 1, 1, 2, 3]) {
@@ -882,7 +1126,13 @@ fn commands(random: &mut Random, lines: usize) -> (usize, Vec<u8>) {
         input.push(b'\n');
     }
     if random.below(2) == 0 {
-        input.extend(random.one_of(&[b"quit\nclaim 1\n".as_slice(), b"quit", b"claim 1", b"foo", b"\xff\0"]));
+        input.extend(random.one_of(&[
+            b"quit\nclaim 1\n".as_slice(),
+            b"quit",
+            b"claim 1",
+            b"foo",
+            b"\xff\0",
+        ]));
     }
     (limit, input)
 }
@@ -948,7 +1198,10 @@ fn commands_and_changed_ones() {
         "not there",
         "too rich",
     ] {
-        assert!(kinds.get(kind).is_some_and(|&count| count >= 200), "{kind} is rare among {kinds:?}");
+        assert!(
+            kinds.get(kind).is_some_and(|&count| count >= 200),
+            "{kind} is rare among {kinds:?}"
+        );
     }
 }
 
@@ -957,13 +1210,19 @@ fn commands_and_changed_ones() {
 fn letters_and_digits() {
     let mut random = Random(3);
     let words = [
-        "claim ", "prove ", "come ", "shares", "cents", "help", " ", "\t", "\r", "\n", "\n", "\n", "#", "\0", "0", "17",
-        "9999",
+        "claim ", "prove ", "come ", "shares", "cents", "help", " ", "\t", "\r", "\n", "\n", "\n",
+        "#", "\0", "0", "17", "9999",
     ];
     let mut lines = 0;
     for _ in 0..8 {
         let input: Vec<u8> = (0..40_000)
-            .flat_map(|_| if random.below(9) == 0 { vec![a_byte(&mut random)] } else { random.one_of(&words).into() })
+            .flat_map(|_| {
+                if random.below(9) == 0 {
+                    vec![a_byte(&mut random)]
+                } else {
+                    random.one_of(&words).into()
+                }
+            })
             .collect();
         lines += hold(5, &input).lines;
     }
@@ -976,8 +1235,15 @@ fn any_bytes() {
     let mut random = Random(4);
     let mut lines = 0;
     for feeds in [256, 200, 100, 20, 5, 2] {
-        let input: Vec<u8> =
-            (0..1_200_000).map(|_| if random.below(feeds) == 0 { b'\n' } else { random.below(256) as u8 }).collect();
+        let input: Vec<u8> = (0..1_200_000)
+            .map(|_| {
+                if random.below(feeds) == 0 {
+                    b'\n'
+                } else {
+                    random.below(256) as u8
+                }
+            })
+            .collect();
         lines += hold(1024, &input[..if feeds > 50 { 1_200_000 } else { 60_000 }]).lines;
     }
     assert!(lines >= 60_000, "{lines} lines");

@@ -50,20 +50,34 @@ fn equal_answers() {
             1..5 => seed.below(200) as usize,
             _ => seed.below(24) as usize,
         };
-        let (mut library, mut rival) = (Library::open(limit).expect("a desk"), Rival::open(limit).expect("a desk"));
+        let (mut library, mut rival) = (
+            Library::open(limit).expect("a desk"),
+            Rival::open(limit).expect("a desk"),
+        );
         let (mut one, mut other) = (vec![0xa5; 8 * limit + 40], vec![0xa5; 8 * limit + 40]);
         for _ in 0..4 * limit + 40 {
             let call = call_of(kind, limit, &mut seed);
-            let lent = if seed.below(64) == 0 { seed.below(one.len() as u64) as usize } else { one.len() };
+            let lent = if seed.below(64) == 0 {
+                seed.below(one.len() as u64) as usize
+            } else {
+                one.len()
+            };
             let answered = library.call(&call, &mut one[..lent]);
-            assert_eq!(answered, rival.call(&call, &mut other[..lent]), "estate {number}: {call:?}");
+            assert_eq!(
+                answered,
+                rival.call(&call, &mut other[..lent]),
+                "estate {number}: {call:?}"
+            );
             assert_eq!(one, other, "estate {number}: {call:?}");
             if answered < 0 {
                 refusals[(-answered >> 32) as usize] += 1;
             }
         }
     }
-    assert!(refusals[1..].iter().all(|&count| count > 1_000), "{refusals:?}");
+    assert!(
+        refusals[1..].iter().all(|&count| count > 1_000),
+        "{refusals:?}"
+    );
 }
 
 #[test]

@@ -76,8 +76,15 @@ impl Library {
     pub fn level_of(&self, there: u64) -> (u64, u64) {
         let ledger = &self.memory[64..];
         let mut level = Level::default();
-        let found =
-            unsafe { c::measured_level(ledger.as_ptr(), ledger.len(), self.memory[2] as usize, there, &mut level) };
+        let found = unsafe {
+            c::measured_level(
+                ledger.as_ptr(),
+                ledger.len(),
+                self.memory[2] as usize,
+                there,
+                &mut level,
+            )
+        };
         assert!(found, "the level of a desk");
         (level.numerator, level.denominator)
     }

@@ -53,7 +53,13 @@ impl Rival {
         }
         let mut sums = Vec::with_capacity(limit + 1);
         sums.push(0);
-        Ok(Rival { limit, there: 0, claims: Vec::with_capacity(limit), sorted: Vec::with_capacity(limit), sums })
+        Ok(Rival {
+            limit,
+            there: 0,
+            claims: Vec::with_capacity(limit),
+            sorted: Vec::with_capacity(limit),
+            sums,
+        })
     }
 
     /// As it was when it was opened.
@@ -88,7 +94,9 @@ impl Rival {
                 Ok(number(place as u64, answer))
             }
             Call::Prove(place, cents) => {
-                let claim = usize::try_from(place).ok().and_then(|place| self.claims.get_mut(place));
+                let claim = usize::try_from(place)
+                    .ok()
+                    .and_then(|place| self.claims.get_mut(place));
                 let old = std::mem::replace(claim.ok_or(Refusal(4, 0))?, cents);
                 self.moved(old, cents);
                 Ok(number(place, answer))
@@ -183,7 +191,12 @@ impl Rival {
 
     #[inline(never)]
     fn shares(&self, answer: &mut [u8]) -> usize {
-        let Terms { losses, spread, among, from } = self.terms(self.there);
+        let Terms {
+            losses,
+            spread,
+            among,
+            from,
+        } = self.terms(self.there);
         answer[0] = 2;
         answer[1..9].copy_from_slice(&(2 * among).max(1).to_le_bytes());
         answer[9..17].copy_from_slice(&(self.claims.len() as u64).to_le_bytes());
@@ -191,16 +204,25 @@ impl Rival {
         let rows = &mut answer[17..];
         let all_of = |claim: u32| u64::from(claim) * u64::from(among);
         if losses {
-            list(&self.claims, rows, |c| 2 * all_of(c) - if c < from { all_of(c) } else { spread });
+            list(&self.claims, rows, |c| {
+                2 * all_of(c) - if c < from { all_of(c) } else { spread }
+            });
         } else {
-            list(&self.claims, rows, |c| if c < from { all_of(c) } else { spread });
+            list(&self.claims, rows, |c| {
+                if c < from { all_of(c) } else { spread }
+            });
         }
         17 + 8 * self.claims.len()
     }
 
     #[inline(never)]
     fn cents(&self, answer: &mut [u8]) -> usize {
-        let Terms { losses, spread, among, from } = self.terms(self.there);
+        let Terms {
+            losses,
+            spread,
+            among,
+            from,
+        } = self.terms(self.there);
         let count = self.claims.len();
         answer[0] = 3;
         answer[1..9].copy_from_slice(&(count as u64).to_le_bytes());
@@ -216,28 +238,50 @@ impl Rival {
         } else {
             ((spread / parts) as u32, spread % parts)
         };
-        let halves: u32 = self.sorted[..count - among as usize].iter().map(|claim| claim & 1).sum();
+        let halves: u32 = self.sorted[..count - among as usize]
+            .iter()
+            .map(|claim| claim & 1)
+            .sum();
         let left = (lack as u32 + halves) / 2;
         // Up to a place one cent goes to all of a kind, and behind it to none of it: the kinds, and what they have before
         // the place and behind it.
         let is_half = |c: u32| c < from && c & 1 == 1;
         let is_level = |c: u32| c >= from;
         let (place, before, behind) = match lack.cmp(&among) {
-            std::cmp::Ordering::Equal => (self.place(left, |c| is_half(c) || is_level(c)), (1, 1), (0, 0)),
-            std::cmp::Ordering::Less if left <= halves => (self.place(left, is_half), (1, 0), (0, 0)),
+            std::cmp::Ordering::Equal => (
+                self.place(left, |c| is_half(c) || is_level(c)),
+                (1, 1),
+                (0, 0),
+            ),
+            std::cmp::Ordering::Less if left <= halves => {
+                (self.place(left, is_half), (1, 0), (0, 0))
+            }
             std::cmp::Ordering::Less => (self.place(left - halves, is_level), (1, 1), (1, 0)),
-            std::cmp::Ordering::Greater if left <= among as u32 => (self.place(left, is_level), (0, 1), (0, 0)),
-            std::cmp::Ordering::Greater => (self.place(left - among as u32, is_half), (1, 1), (0, 1)),
+            std::cmp::Ordering::Greater if left <= among as u32 => {
+                (self.place(left, is_level), (0, 1), (0, 0))
+            }
+            std::cmp::Ordering::Greater => {
+                (self.place(left - among as u32, is_half), (1, 1), (0, 1))
+            }
         };
         let (first, last) = self.claims.split_at(place);
         let (first_rows, last_rows) = answer[9..].split_at_mut(8 * place);
-        for (claims, rows, (half, more)) in [(first, first_rows, before), (last, last_rows, behind)] {
+        for (claims, rows, (half, more)) in [(first, first_rows, before), (last, last_rows, behind)]
+        {
             if losses {
                 let less = level - more;
-                list(claims, rows, |c| u64::from(if c < from { (c + half) >> 1 } else { c.wrapping_sub(less) }));
+                list(claims, rows, |c| {
+                    u64::from(if c < from {
+                        (c + half) >> 1
+                    } else {
+                        c.wrapping_sub(less)
+                    })
+                });
             } else {
                 let level = level + more;
-                list(claims, rows, |c| u64::from(if c < from { (c + half) >> 1 } else { level }));
+                list(claims, rows, |c| {
+                    u64::from(if c < from { (c + half) >> 1 } else { level })
+                });
             }
         }
         9 + 8 * count
@@ -314,5 +358,9 @@ fn fitting(rest: &[u8], start: usize) -> Result<u64, Refusal> {
 }
 
 fn cents(number: u64, place: usize) -> Result<u32, Refusal> {
-    if number > MOST_CENTS { Err(Refusal(2, place)) } else { Ok(number as u32) }
+    if number > MOST_CENTS {
+        Err(Refusal(2, place))
+    } else {
+        Ok(number as u32)
+    }
 }
