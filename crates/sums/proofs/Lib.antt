@@ -1,5 +1,4 @@
-pub mod Nodes
-pub mod Found
+pub mod Sums
 pub mod Ways
 pub mod Written
 pub mod Rows

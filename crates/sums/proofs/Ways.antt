@@ -1,66 +1,84 @@
 -- The way down a tree: as the code goes it, and that it ends at the level. Assumes nothing.
-use Rattle.std.proofs.Common.{◌≡◌, ℕ, suc, zero, ◌+◌, ◌-◌, ◌*◌, ◌^◌, ◌<◌, ◌≤◌, ◌⊎◌, List, [], ◌∷◌, length, take, drop, sum, slice_index, length-drop, get_or-drop, All, mul-le-mul_left, refl, sym, ap, ◌∙◌, arith}
+use Rattle.std.proofs.Common.{◌≡◌, ℕ, suc, zero, ◌+◌, ◌-◌, ◌*◌, ◌^◌, ◌%◌, ◌<◌, ◌≤◌, ◌⊎◌, List, [], ◌∷◌, length, take, drop, sum, slice_index, length-drop, get_or-drop, All, mul-le-mul_left, add-zero, add-one, refl, sym, ap, ◌∙◌, arith}
 use mathlib.Core.Logic.{inl, inr}
+use Rattle.std.specs.Int.Count.{count_leading_zeros}
 use Rattle.std.specs.List.Sorted.{IsNonDecreasing}
-use Rattle.std.proofs.lemmas.List.{places, take-take, take_rest, drop-take}
+use Rattle.std.proofs.lemmas.List.{places}
 use Rattle.std.proofs.lemmas.List.Elements.{All-tail}
-use Rattle.std.proofs.lemmas.List.Sorted.{IsNonDecreasingBy-drop}
-use Rattle.std.proofs.lemmas.List.Sums.{sum_by-take-drop}
+use Rattle.std.proofs.lemmas.List.Sums.{sum_by_more}
 use Rattle.std.proofs.Math.Pow.{pow_mono}
-use Rattle.std.proofs.lemmas.Nat.{pow_pos}
+use Rattle.std.proofs.lemmas.Nat.{leading_length, one_shl, pow_pos}
 use Rattle.std.proofs.lemmas.Bool.Decides.{nat_tests}
+use Rattle.std.proofs.lemmas.Bool.{cases_lt}
 use Rattle.estate.specs.Level.{fill}
 use Rattle.estate.proofs.Rows.{sum-cons}
 use Rattle.estate.proofs.Ordered.{rising_head, rising_tail}
 use Rattle.level.specs.Words.{held}
-use Rattle.level.specs.Levels.{Fills}
+use Rattle.level.specs.Levels.{level_of, Fills}
 use Rattle.level.specs.declared.filling.Fraction.{Fraction}
-use Rattle.sums.specs.Nodes.{node, sums_of}
-use Rattle.sums.specs.Descending.{IsHeight, IsMiddle, Way, way, Goes}
-use Rattle.sums.proofs.Nodes.{by_node, height_room, node_middle, node_right}
+use Rattle.sums.specs.Sums.{sums_of, total_of}
+use Rattle.sums.specs.Descending.{IsHeight, IsBehind, reach, start, further, way, Goes, level_behind}
+use Rattle.sums.specs.declared.descending.Way.{Way}
+use Rattle.sums.proofs.Sums.{sum_at, total_taken}
 
-pub goes_end : (h n : ℕ) (ks ws : List ℕ) (f : Fraction) → h < 1 → f ≡ record { numerator = n; denominator = length ks } → Goes h n ks ws f 0
+pub height_is : (n : ℕ) → n < 2 ^ 64 → IsHeight n (64 - count_leading_zeros 64 n)
+unfolding IsHeight
+height_is n h =
+    let (m, same, room, least) = leading_length 64 n h in
+    let is : 64 - count_leading_zeros 64 n ≡ m = omega arith in
+    rw is (omega arith, room, least)
+
+pub height_room : (n h : ℕ) → IsHeight n h → (h ≤ 64) × (2 ^ h ≤ 2 * n + 1)
+unfolding IsHeight
+height_room n h is = (is.0, is.2)
+
+pub behind_is : (h : ℕ) (w : Way) → h < 64 → IsBehind h w (w.filled + (1 * 2 ^ h) % 2 ^ 64)
+unfolding IsBehind
+behind_is h w low = rw (one_shl h 64 low) refl
+
+pub behind_room : (h n : ℕ) (w : Way) → h < 64 → w.filled + 2 ^ h < n → w.filled + (1 * 2 ^ h) % 2 ^ 64 < n
+behind_room h n w low room = rw (one_shl h 64 low) room
+
+pub goes_end : (h n : ℕ) (ks ws : List ℕ) (w : Way) → h < 1 → Goes h n ks ws w w
 unfolding Goes way
-goes_end h n ks ws f low is = let none : h ≡ 0 = omega arith in rw (none, is) refl
+goes_end h n ks ws w low = let none : h ≡ 0 = omega arith in rw none refl
 
--- through a tree one higher than h, whose middle is m
-module _ (g h m n : ℕ) (ks ws : List ℕ) (f : Fraction) (s : ℕ) (less : g ≡ suc h) (is_middle : IsMiddle h m) where
-  pub goes_lower : length ks ≤ m → Goes h n ks ws f s → Goes g n ks ws f s
-  unfolding Goes way IsMiddle
+-- through a tree one higher than h, where p is the place behind its middle
+module _ (g h n p : ℕ) (ks ws : List ℕ) (w end : Way) (less : g ≡ suc h) (is_behind : IsBehind h w p) where
+  pub goes_lower : length ks < p → Goes h n ks ws w end → Goes g n ks ws w end
+  unfolding Goes way IsBehind
   goes_lower few is = rw less (grind (arith, nat_tests))
 
-  pub goes_before : m < length ks → n ≤ slice_index ws m + (length ks - (m + 1)) * slice_index ks m → Goes h n ks ws f s → Goes g n ks ws f (s + 1)
-  unfolding Goes way IsMiddle
-  goes_before some reached is =
-      let last : 2 ^ h - 1 ≡ m = omega arith in
-      rw (less, last, sym is_middle) (grind (arith, nat_tests))
+  pub goes_before : p ≤ length ks → n ≤ reach p ks ws → Goes h n ks ws (further w.filled w) end → Goes g n ks ws w end
+  unfolding Goes way IsBehind
+  goes_before some reached is = rw (less, sym is_behind) (grind (arith, nat_tests))
 
-  pub goes_behind : m < length ks → slice_index ws m + (length ks - (m + 1)) * slice_index ks m < n → Goes h (n - slice_index ws m) (take (length ks - (m + 1)) (drop (m + 1) ks)) (take (length ws - (m + 1)) (drop (m + 1) ws)) f s → Goes g n ks ws f (s + 1)
-  unfolding Goes way IsMiddle
-  goes_behind some past is =
-      let last : 2 ^ h - 1 ≡ m = omega arith in
-      let rest_ks = take_rest ks (m + 1) in
-      let rest_ws = take_rest ws (m + 1) in
-      let on = rw (rest_ks, rest_ws) at is in
-      rw (less, last, sym is_middle) (grind (arith, nat_tests))
+  pub goes_behind : p ≤ length ks → reach p ks ws < n → Goes h n ks ws (further p w) end → Goes g n ks ws w end
+  unfolding Goes way IsBehind
+  goes_behind some past is = rw (less, sym is_behind) (grind (arith, nat_tests))
 
-pub ruleset goes = (goes_end, goes_lower, goes_before, goes_behind)
+-- what is filled behind a node is as much as its sum
+pub filled_behind : (p : ℕ) (ws : List ℕ) → 0 < p → p ≤ length ws → total_of (take p ws) ≡ slice_index ws (p - 1)
+filled_behind p ws some l = grind (arith, places)
 
--- no way is longer than the tree is high
-few_steps : (h n : ℕ) (ks ws : List ℕ) → (way h n ks ws).steps ≤ h
-unfolding way
-few_steps zero n ks ws = omega arith
-few_steps (suc h) n ks ws =
-    let before = few_steps h n ks ws in
-    let behind = few_steps h (n - slice_index ws (2 ^ h - 1)) (drop (2 ^ h) ks) (drop (2 ^ h) ws) in
-    grind (arith, nat_tests)
+pub some_behind : (h p : ℕ) (w : Way) → IsBehind h w p → 0 < p
+unfolding IsBehind
+some_behind h p w is_behind = omega (arith, pow_pos h)
+
+pub room_behind : (g h p l : ℕ) (w : Way) → g ≡ suc h → IsBehind h w p → w.filled + 2 ^ g ≤ l → p + 2 ^ h ≤ l
+unfolding IsBehind
+room_behind g h p l w less is_behind room = omega (arith, rw less at room)
+
+pub ruleset behind = (behind_is, behind_room)
+
+pub ruleset goes = (goes_end, goes_lower, goes_before, goes_behind, filled_behind, some_behind, room_behind)
 
 -- all claims up to the middle are filled, where more is left than would fill them and all others up to the last of them
-reach : (c k : ℕ) (ks : List ℕ) → All (λ x. c ≤ x) ks → k ≤ length ks → k * c ≤ sum (take k ks)
-reach c zero ks above room = omega arith
-reach c (suc k) [] above room = absurd (omega arith)
-reach c (suc k) (x ∷ xs) above room =
-    omega (arith, above 0 0 (omega arith), reach c k xs (All-tail (λ y. c ≤ y) x xs above) (omega arith), sum-cons x (take k xs))
+at_least : (c k : ℕ) (ks : List ℕ) → All (λ x. c ≤ x) ks → k ≤ length ks → k * c ≤ sum (take k ks)
+at_least c zero ks above room = omega arith
+at_least c (suc k) [] above room = absurd (omega arith)
+at_least c (suc k) (x ∷ xs) above room =
+    omega (arith, above 0 0 (omega arith), at_least c k xs (All-tail (λ y. c ≤ y) x xs above) (omega arith), sum-cons x (take k xs))
 
 fill_past : (m p n : ℕ) (ks : List ℕ) → IsNonDecreasing ks → length ks ≡ suc m + p → sum (take (suc m) ks) + p * slice_index ks m < n → fill n ks ≡ fill (n - sum (take (suc m) ks)) (drop (suc m) ks)
 unfolding fill
@@ -68,7 +86,7 @@ fill_past m p n [] rise long more = absurd (omega arith)
 fill_past zero p n (c ∷ cs) rise long more = let same : length cs ≡ p = omega arith in grind (arith, nat_tests)
 fill_past (suc m) p n (c ∷ cs) rise long more =
     let above = rising_head c cs rise in
-    let front = reach c (suc m) cs above (omega arith) in
+    let front = at_least c (suc m) cs above (omega arith) in
     let here : c ≤ slice_index cs m = above m 0 (omega arith) in
     let others = mul-le-mul_left p here in
     let all = sum-cons c (take (suc m) cs) in
@@ -76,80 +94,72 @@ fill_past (suc m) p n (c ∷ cs) rise long more =
     let rest = fill_past m p (n - c) cs (rising_tail c cs rise) (omega arith) (omega (arith, all, more)) in
     grind (arith, nat_tests)
 
--- Filled into claims in ascending order, n is gone before more than q of them are filled.
-abbrev EndsWithin : ℕ → ℕ → List ℕ → Type 0
-EndsWithin q n ks = (length ks < q) ⊎ (n ≤ sum (take q ks) + (length ks - q) * slice_index ks (q - 1))
+-- where no more is left than fills all to the least of them, they share it
+fill_here : (n : ℕ) (ks : List ℕ) → (length ks ≡ 0) ⊎ (n ≤ length ks * slice_index ks 0) → fill n ks ≡ record { spread = n; sharers = length ks }
+unfolding fill
+fill_here n [] ends = refl
+fill_here n (c ∷ cs) ends = grind (arith, nat_tests)
 
--- where n is gone before m + 1 and q more claims end, what is left of it behind the first m + 1 is gone before the q end
-ends_behind : (n m q : ℕ) (ks : List ℕ) → 0 < q → EndsWithin (m + 1 + q) n ks → EndsWithin q (n - sum (take (m + 1) ks)) (drop (m + 1) ks)
-ends_behind n m q ks some (inl few) = inl (omega (arith, length-drop (m + 1) ks))
-ends_behind n m q ks some (inr reached) =
-    let long = length-drop (m + 1) ks in
-    let parts = sum_by-take-drop (λ x. x) (take (m + 1 + q) ks) (m + 1) in
-    let front = take-take (m + 1) (m + 1 + q) ks (omega arith) in
-    let back = drop-take (m + 1) q ks in
-    let last = get_or-drop (m + 1) ks (q - 1) 0 in
-    let place : m + 1 + q - 1 ≡ m + 1 + (q - 1) = omega arith in
-    let others : length ks - (m + 1 + q) ≡ length ks - (m + 1) - q = omega arith in
-    inr (rw (last, long) (omega (arith, rw (place, others) at reached, rw (front, back) at parts)))
+-- The first claims are filled, and the level lies before those behind which the part of the tree ends that is h high.
+record Between (h n : ℕ) (ks ws : List ℕ) (w : Way) : Type 0 where
+  within : w.filled ≤ length ks
+  past : (w.filled ≡ 0) ⊎ (reach w.filled ks ws < n)
+  ends : (length ks < w.filled + 2 ^ h) ⊎ (n ≤ reach (w.filled + 2 ^ h) ks ws)
 
--- The first words are the nodes of a tree of height h over the first claims, which ascend, and n is gone within that tree.
-record Sound (h n : ℕ) (ks ws : List ℕ) : Type 0 where
-  nodes : (j : ℕ) → j + 1 < 2 ^ h → j < length ks → slice_index ws j ≡ node ks j
-  rising : IsNonDecreasing ks
-  word : n < 2 ^ 64
-  ends : EndsWithin (2 ^ h) n ks
+-- filled into claims in ascending order, beside which the sums over them stand
+module _ (n : ℕ) (ks ws : List ℕ) (rising : IsNonDecreasing ks) (same : ws ≡ sums_of ks) (word : n < 2 ^ 64) where
+  sum_here : (j : ℕ) → j < length ks → slice_index ws j ≡ held (sum (take (j + 1) ks))
+  sum_here j l = rw same (sum_at j ks l)
 
--- one higher than h, whose middle is m
-module _ (h m n : ℕ) (ks ws : List ℕ) (is_middle : m + 1 ≡ 2 ^ h) (d : Sound (suc h) n ks ws) where
-  -- the words before the middle are those of a tree one less high
-  before : EndsWithin (2 ^ h) n ks → Sound h n ks ws
-  before ends =
-      record { nodes = λ j i l. d.nodes j (omega arith) l; rising = d.rising; word = d.word; ends = ends }
+  taken : (p : ℕ) → total_of (take p ws) ≡ held (sum (take p ks))
+  taken p = rw same (total_taken p ks)
 
-  module _ (some : m < length ks) where
-    here : slice_index ws m ≡ held (sum (take (m + 1) ks))
-    here = d.nodes m (omega arith) some ∙ node_middle h m is_middle ks
+  -- what fills the first p claims is gone
+  gone : (p : ℕ) → p ≤ length ks → (p ≡ 0) ⊎ (reach p ks ws < n) → (total_of (take p ws) ≡ sum (take p ks)) × (fill n ks ≡ fill (n - sum (take p ks)) (drop p ks))
+  gone zero room past = let all : n ≡ n - sum (take 0 ks) = omega arith in (refl, ap (λ k. fill k ks) all)
+  gone (suc m) room (inl none) = absurd (omega arith)
+  gone (suc m) room (inr past) =
+      let last : suc m - 1 ≡ m = omega arith in
+      let past = rw last at past in
+      let here = rw add-one at (sum_here m room) in
+      (omega (arith, taken (suc m)), fill_past m (length ks - suc m) n ks rising (omega arith) (omega arith))
 
-    goes_on : n ≤ slice_index ws m + (length ks - (m + 1)) * slice_index ks m → Sound h n ks ws
-    goes_on reached = let last : 2 ^ h - 1 ≡ m = omega arith in before (inr (rw (last, sym is_middle) (omega (arith, here, reached))))
+  -- and where n fills no more, the others share what is left
+  shared : (p : ℕ) → (length ks < p + 1) ⊎ (n ≤ reach (p + 1) ks ws) → (length (drop p ks) ≡ 0) ⊎ (n - sum (take p ks) ≤ length (drop p ks) * slice_index (drop p ks) 0)
+  shared p (inl few) = inl (omega (arith, length-drop p ks))
+  shared p (inr reached) =
+      elim (cases_lt p (length ks)) [
+        | inl l ↦
+            let here : p + 1 - 1 ≡ p = omega arith in
+            let first : slice_index (drop p ks) 0 ≡ slice_index ks p = get_or-drop p ks 0 0 ∙ rw add-zero refl in
+            let long : length (drop p ks) ≡ suc (length ks - (p + 1)) = omega (arith, length-drop p ks) in
+            inr (rw (long, first) (omega (arith, rw here at reached, sum_here p l, sum_by_more (λ x. x) ks p 0 l)))
+        | inr g ↦ inl (omega (arith, length-drop p ks))
+      ]
 
-    module _ (past : slice_index ws m + (length ks - (m + 1)) * slice_index ks m < n) where
-      exact : slice_index ws m ≡ sum (take (m + 1) ks)
-      exact = omega (arith, here, past, d.word)
+  found : (w : Way) → Between 0 n ks ws w → level_behind w.filled n ks ws ≡ fill n ks
+  found w b =
+      let p = w.filled in
+      let (exact, is) = gone p b.within b.past in
+      let others = length-drop p ks in
+      rw (exact, sym others) (sym (is ∙ fill_here (n - sum (take p ks)) (drop p ks) (shared p b.ends)))
 
-      filled : fill n ks ≡ fill (n - slice_index ws m) (drop (m + 1) ks)
-      filled =
-          let one : suc m ≡ m + 1 = omega arith in
-          rw exact (rw one at (fill_past m (length ks - (m + 1)) n ks d.rising (omega arith) (rw one (rw exact at past))))
+  fills : (h : ℕ) (w : Way) → Between h n ks ws w → level_behind (way h n ks ws w).filled n ks ws ≡ fill n ks
+  unfolding way
+  fills zero w b = found w b
+  fills (suc h) w b =
+      let double : w.filled + 2 ^ suc h ≡ w.filled + 2 ^ h + 2 ^ h = omega arith in
+      let lower = λ (few : length ks < w.filled + 2 ^ h). fills h w (record { within = b.within; past = b.past; ends = inl few }) in
+      let before = λ (l : n ≤ reach (w.filled + 2 ^ h) ks ws). fills h (further w.filled w) (record { within = b.within; past = b.past; ends = inr l }) in
+      let behind = λ (some : w.filled + 2 ^ h ≤ length ks) (g : reach (w.filled + 2 ^ h) ks ws < n). fills h (further (w.filled + 2 ^ h) w) (record { within = some; past = inr g; ends = rw double at b.ends }) in
+      grind (arith, nat_tests, lower, before, behind)
 
-      behind : Sound h (n - slice_index ws m) (drop (m + 1) ks) (drop (m + 1) ws)
-      behind = let double : 2 ^ suc h ≡ m + 1 + 2 ^ h = omega arith in record {
-        nodes = λ j i l. get_or-drop (m + 1) ws j 0 ∙ d.nodes (m + 1 + j) (omega (arith, i)) (omega (arith, l, length-drop (m + 1) ks)) ∙ node_right h m is_middle ks j i;
-        rising = IsNonDecreasingBy-drop (λ x. x) (m + 1) ks d.rising;
-        word = omega (arith, d.word);
-        ends = rw exact (ends_behind n m (2 ^ h) ks (omega arith) (rw double at d.ends));
-      }
-
-fills : (h n : ℕ) (ks ws : List ℕ) → Sound h n ks ws → (way h n ks ws).level ≡ fill n ks
-unfolding way fill
-fills zero n [] ws d = refl
-fills zero n (c ∷ cs) ws d = let ends = d.ends in grind (arith, nat_tests, places)
-fills (suc h) n ks ws d =
-    let m = 2 ^ h - 1 in
-    let is : 2 ^ h - 1 + 1 ≡ 2 ^ h = omega (arith, pow_pos h) in
-    let reach = slice_index ws m + (length ks - 2 ^ h) * slice_index ks m in
-    let lower = λ (t : length ks < 2 ^ h). fills h n ks ws (before h m n ks ws is d (inl t)) in
-    let left = λ (t : 2 ^ h ≤ length ks) (r : n ≤ reach). fills h n ks ws (goes_on h m n ks ws is d (omega arith) (rw is r)) in
-    let right = λ (t : 2 ^ h ≤ length ks) (r : reach < n). rw is at (fills h (n - slice_index ws m) (drop (m + 1) ks) (drop (m + 1) ws) (behind h m n ks ws is d (omega arith) (rw is r)) ∙ sym (filled h m n ks ws is d (omega arith) (rw is r))) in
-    grind (arith, nat_tests, lower, left, right)
-
--- the whole tree
-pub level_found : (h n : ℕ) (ks ws : List ℕ) (f : Fraction) (s : ℕ) → IsHeight (length ks) h → n < 2 ^ 64 → Goes h n ks ws f s → IsNonDecreasing ks → ws ≡ sums_of ks → Fills ks n f
+pub level_found : (h n s : ℕ) (ks ws : List ℕ) (end : Way) → IsHeight (length ks) h → n < 2 ^ 64 → Goes h n ks ws start end → s ≡ total_of (take end.filled ws) → IsNonDecreasing ks → ws ≡ sums_of ks → Fills ks n (record { numerator = n - s; denominator = length ks - end.filled })
 unfolding Goes IsHeight
-level_found h n ks ws f s high word goes rising same =
-    let sums = by_node ks ws same in
-    ap (λ (w : Way). w.level) (sym goes) ∙ fills h n ks ws (record { nodes = λ j i l. sums.nodes j l; rising = rising; word = word; ends = inl high.1 })
+level_found h n s ks ws end high word goes is rising same =
+    ap (λ x. record { spread = n - x; sharers = length ks - end.filled }) is
+    ∙ ap (λ (w : Way). level_behind w.filled n ks ws) goes
+    ∙ fills n ks ws rising same word h start (record { within = omega arith; past = inl refl; ends = inl (omega (arith, high.1)) })
 
 pub steps_counted : (h n s : ℕ) → IsHeight n h → s ≤ h → 2 ^ s ≤ 2 * n + 1
 unfolding IsHeight

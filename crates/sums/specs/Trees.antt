@@ -6,8 +6,10 @@ use Rattle.std.specs.List.Sorted.{IsNonDecreasing}
 use Rattle.estate.specs.Level.{divided_of_sum, scarce_of_sum, target_of_sum}
 use Rattle.level.specs.Sides.{gains}
 use Rattle.level.specs.declared.closed.Terms.{Terms}
-use Rattle.sums.specs.Nodes.{sums_of}
-use Rattle.sums.specs.Descending.{total_of, IsHeight, Goes}
+use Rattle.level.specs.Levels.{level_of}
+use Rattle.sums.specs.Sums.{sums_of, total_of}
+use Rattle.sums.specs.Descending.{IsHeight, Goes, start, level_behind}
+use Rattle.sums.specs.declared.descending.Way.{Way}
 use Rattle.sums.specs.declared.descending.Descent.{Descent}
 use Rattle.sums.specs.declared.tree.Tree.{Tree}
 
@@ -16,12 +18,15 @@ pub record IsTree (t : Tree) : Type 0 where
   pub rising : IsNonDecreasing t.claims.now
   pub sums : t.sums.now ≡ sums_of t.claims.now
 
--- What is found going down words ws beside claims ks, whatever they are: the way down a tree of that height.
+-- What is found going down words ws beside claims ks, whatever they are: where the way down a tree of that height ends.
 pub record Descended (ks ws : List ℕ) (n : ℕ) (d : Descent) : Type 0 where
   pub height : ℕ
   pub high : IsHeight (length ks) height
-  pub goes : Goes height n ks ws d.level d.steps
-  pub few : d.steps ≤ height
+  pub end : Way
+  pub goes : Goes height n ks ws start end
+  pub few : end.steps ≤ height
+  pub level : level_of d.level ≡ level_behind end.filled n ks ws
+  pub steps : d.steps ≡ end.steps
 
 -- The terms on which e cents, of a sum s that is claimed, are divided, as the way down this tree gives them.
 pub record Leads (e s : ℕ) (t : Tree) (r : Terms) : Type 0 where

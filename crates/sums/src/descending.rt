@@ -1,42 +1,17 @@
-// The ways down a tree of sums. A way begins at the node in the middle; what lies before it, and what lies behind it, are
-// trees of their own, one less high. A tree of height 0 has no node.
-ghost use Rattle.std.specs.Prelude.{◌≡◌, ◌≤◌, ◌<◌, ◌+◌, length};
-ghost use Rattle.sums.specs.Descending.{Goes, IsHeight, IsMiddle, Totals};
+// The way down a tree of sums. It begins at the node in the middle of all; what lies before a middle, and what lies behind it,
+// are trees of their own, one less high. A tree of height 0 has no node.
+ghost use Rattle.std.specs.Prelude.{◌≡◌, ◌≤◌, ◌<◌, ◌+◌, ◌*◌, ◌^◌, length, take};
+ghost use Rattle.sums.specs.Descending.{Goes, IsBehind, IsHeight};
+ghost use Rattle.sums.specs.Sums.{total_of};
 
 use level::Fraction;
 
 // How high a tree over so many claims is: as high as their number has binary digits.
-#[tactic(auto, using(crate::proofs::Nodes::height_is))]
+#[tactic(auto, using(crate::proofs::Ways::height_is))]
 pub(crate) fn height(claims: usize) -> u32
     ensures { IsHeight claims result }
 {
     usize::BITS - claims.leading_zeros()
-}
-
-// The place of the middle of a tree one higher than this.
-#[tactic(auto, using(crate::proofs::Nodes::middle_is))]
-pub(crate) fn middle(height: u32) -> usize
-    requires { height < 64 }
-    ensures { IsMiddle height result }
-{
-    (1 << height) - 1
-}
-
-// What all claims come to: the sum in the middle has those up to it, and those behind it are added.
-#[tactic(auto, using(crate::proofs::Found::total_goes))]
-pub(crate) fn total(height: u32, sums: &[u64]) -> u64
-    requires word { height ≤ 64 }
-    ensures { Totals height sums.now result }
-{
-    let Some(height) = height.checked_sub(1) else {
-        return 0;
-    };
-    let middle = middle(height);
-    if middle < sums.len() {
-        sums[middle].saturating_add(total(height, &sums[middle + 1..]))
-    } else {
-        total(height, sums)
-    }
 }
 
 // The level, and at how many nodes it was decided where it lies. At each of them one sum and one claim were read.
@@ -46,50 +21,63 @@ pub struct Descent {
     pub steps: u32,
 }
 
-impl Descent {
-    // One more such node.
-    fn further(self) -> Self
-        requires { self.steps < 64 }
-        ensures { result ≡ record { level = self.level; steps = self.steps + 1 } }
+// How far the way has come: so many claims are filled, and it was decided at so many nodes.
+#[derive(Clone, Copy)]
+pub(crate) struct Way {
+    pub filled: usize,
+    pub steps: u32,
+}
+
+impl Way {
+    // The place behind the middle of the tree on the way, which is one higher than this.
+    #[tactic(auto, using(crate::proofs::Ways::behind))]
+    fn behind(self, height: u32) -> usize
+        requires word { height < 64 }
+        requires room { self.filled + 2 ^ height < 2 ^ 64 }
+        ensures { IsBehind height self result }
     {
-        Descent {
-            level: self.level,
+        self.filled + (1 << height)
+    }
+
+    // Decided at one more node, that so many claims are filled.
+    fn further(self, filled: usize) -> Self
+        requires { self.steps < 64 }
+        ensures { result ≡ record { filled = filled; steps = self.steps + 1 } }
+    {
+        Way {
+            filled,
             steps: self.steps + 1,
         }
     }
 }
 
-// Goes down a tree so high to where the level lies. All claims up to the middle are filled if the target is more than they
-// come to and as much for each claim behind them as the last of them; otherwise the level lies before the middle.
+// Goes on down a tree so high, which begins behind the claims that are filled. All claims up to the middle are filled too if
+// the target is more than they come to and as much for each claim behind them as the last of them; otherwise the level lies
+// before the middle.
 #[tactic(auto, using(crate::proofs::Ways::goes))]
-pub(crate) fn descend(height: u32, sums: &[u64], claims: &[u64], target: u64) -> Descent
-    requires word { height ≤ 64 }
+pub(crate) fn descend(height: u32, way: Way, sums: &[u64], claims: &[u64], target: u64) -> Way
     requires paired { length sums.now ≡ length claims.now }
-    ensures goes { Goes height target claims.now sums.now result.level result.steps }
-    ensures few { result.steps ≤ height }
+    requires steps { way.steps + height ≤ 64 }
+    requires room { way.filled + 2 ^ height ≤ 2 * length claims.now + 1 }
+    requires within { way.filled ≤ length claims.now }
+    requires filled { total_of (take way.filled sums.now) ≤ target }
+    ensures goes { Goes height target claims.now sums.now way result }
+    ensures few { result.steps ≤ way.steps + height }
+    ensures within { result.filled ≤ length claims.now }
+    ensures filled { total_of (take result.filled sums.now) ≤ target }
 {
     let Some(height) = height.checked_sub(1) else {
-        let level = Fraction {
-            numerator: target,
-            denominator: claims.len() as u64,
-        };
-        return Descent { level, steps: 0 };
+        return way;
     };
-    let middle = middle(height);
-    if claims.len() <= middle {
-        return descend(height, sums, claims, target);
+    let behind = way.behind(height);
+    if claims.len() < behind {
+        return descend(height, way, sums, claims, target);
     }
-    let (sum, claim) = (sums[middle], claims[middle]);
-    let others = claims.len() - middle - 1;
+    let (sum, claim) = (sums[behind - 1], claims[behind - 1]);
+    let others = claims.len() - behind;
     if u128::from(target) <= u128::from(sum) + others as u128 * u128::from(claim) {
-        descend(height, sums, claims, target).further()
+        descend(height, way.further(way.filled), sums, claims, target)
     } else {
-        descend(
-            height,
-            &sums[middle + 1..],
-            &claims[middle + 1..],
-            target - sum,
-        )
-        .further()
+        descend(height, way.further(behind), sums, claims, target)
     }
 }

@@ -25,7 +25,6 @@ pub fn add(rows: &mut [u64], count: usize, claim: u64) -> Option<usize>
         &mut sums[..count + 1],
         &register[room..room + count + 1],
         at - room,
-        count + 1,
     );
     Some(at)
 }
@@ -42,8 +41,7 @@ pub fn change(rows: &mut [u64], count: usize, i: usize, claim: u64) -> Result<Mo
     let (register, sums) = rows.split_at_mut(2 * room);
     let moved = amend(register, count, i, claim)?;
     let from = moved.from.min(moved.to) - room;
-    let to = moved.from.max(moved.to) + 1 - room;
-    renew(&mut sums[..count], &register[room..room + count], from, to);
+    renew(&mut sums[..count], &register[room..room + count], from);
     Ok(moved)
 }
 

@@ -1,55 +1,24 @@
-// The sums of a tree, renewed after some claims have changed.
-ghost use Rattle.std.specs.Prelude.{◌≡◌, ◌≤◌, ◌<◌, ◌^◌, length};
-ghost use Rattle.sums.specs.Renewing.{Renewed};
+// The sums over claims, read and renewed.
+ghost use Rattle.std.specs.Prelude.{◌≡◌, ◌≤◌, length};
+ghost use Rattle.sums.specs.Sums.{total_of, renewed};
 
-use crate::descending::{height, middle, total};
-
-// Renews the sums over claims after those from one place on and before another have changed. Only sums that have one of
-// these are written.
-#[tactic(auto, using(crate::proofs::Nodes::height_room))]
-pub(crate) fn renew(sums: &mut [u64], claims: &[u64], from: usize, to: usize)
-    requires paired { length sums.old ≡ length claims.now }
-    requires some { from < to }
-    ensures { Renewed from to claims.now sums.old sums.new }
+// What all claims come to: the last sum, and 0 where there are none.
+pub(crate) fn total(sums: &[u64]) -> u64
+    ensures { result ≡ total_of sums.now }
 {
-    renew_in(height(claims.len()), sums, claims, from, to);
+    sums.last().copied().unwrap_or(0)
 }
 
-// The same for a tree so high.
-#[tactic(auto, using(crate::proofs::Written::renewed))]
-fn renew_in(height: u32, sums: &mut [u64], claims: &[u64], from: usize, to: usize)
-    requires word { height ≤ 64 }
-    requires room { length claims.now < 2 ^ height }
+// Renews the sums over claims after those from one place on have changed. Those before are not written.
+#[tactic(auto, using(crate::proofs::Written::renewing))]
+pub(crate) fn renew(sums: &mut [u64], claims: &[u64], from: usize)
     requires paired { length sums.old ≡ length claims.now }
-    requires some { from < to }
-    ensures { Renewed from to claims.now sums.old sums.new }
+    requires within { from ≤ length claims.now }
+    ensures { sums.new ≡ renewed from claims.now sums.old }
 {
-    let Some(height) = height.checked_sub(1) else {
-        return;
-    };
-    let middle = middle(height);
-    if claims.len() <= middle {
-        return renew_in(height, sums, claims, from, to);
-    }
-    let behind = middle + 1;
-    if middle < from {
-        return renew_in(
-            height,
-            &mut sums[behind..],
-            &claims[behind..],
-            from - behind,
-            to - behind,
-        );
-    }
-    renew_in(height, &mut sums[..middle], &claims[..middle], from, to);
-    sums[middle] = total(height, &sums[..middle]).saturating_add(claims[middle]);
-    if behind < to {
-        renew_in(
-            height,
-            &mut sums[behind..],
-            &claims[behind..],
-            0,
-            to - behind,
-        );
+    let mut sum = total(&sums[..from]);
+    for i in from..claims.len() {
+        sum = sum.saturating_add(claims[i]);
+        sums[i] = sum;
     }
 }

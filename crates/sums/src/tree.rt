@@ -4,11 +4,11 @@ ghost use Rattle.level.specs.Levels.{Fills};
 ghost use Rattle.level.specs.Sides.{divided_of};
 ghost use Rattle.level.specs.Terms.{AreTerms, Found};
 ghost use Rattle.level.specs.Words.{held};
-ghost use Rattle.sums.specs.Descending.{total_of};
-ghost use Rattle.sums.specs.Nodes.{sums_of};
+ghost use Rattle.sums.specs.Sums.{sums_of, total_of};
 
-use crate::descending::{Descent, descend, height, total};
-use level::{Estate, Terms};
+use crate::descending::{Descent, Way, descend, height};
+use crate::renewing::total;
+use level::{Estate, Fraction, Terms};
 
 // Claims, and a word beside each. They are a tree where the claims ascend and the words are the sums over them; the
 // contracts say too what is found in any others.
@@ -35,13 +35,13 @@ impl<'a> Tree<'a> {
     }
 
     // What is claimed by all together, or the largest number that a word holds, where it is more.
-    #[tactic(auto, using(crate::proofs::Found::in_all))]
+    #[tactic(auto, using(crate::proofs::Sums::total_claimed))]
     pub fn total(&self) -> u64
         ensures all { result ≡ total_of self.now.sums.now }
         ensures sum { self.now.sums.now ≡ sums_of self.now.claims.now
             → result ≡ held (sum self.now.claims.now) }
     {
-        total(height(self.sums.len()), self.sums)
+        total(self.sums)
     }
 
     // Fills the target into the claims, each up to the level, and answers the level: the one that going through all claims
@@ -52,7 +52,19 @@ impl<'a> Tree<'a> {
         ensures level { IsTree self.now → Fills self.now.claims.now target result.level }
         ensures steps { 2 ^ result.steps ≤ 2 * length self.now.claims.now + 1 }
     {
-        descend(height(self.claims.len()), self.sums, self.claims, target)
+        let start = Way {
+            filled: 0,
+            steps: 0,
+        };
+        let way = descend(height(self.claims.len()), start, self.sums, self.claims, target);
+        let level = Fraction {
+            numerator: target - total(&self.sums[..way.filled]),
+            denominator: (self.claims.len() - way.filled) as u64,
+        };
+        Descent {
+            level,
+            steps: way.steps,
+        }
     }
 
     // The terms on which an estate is divided among the claims.
