@@ -10,13 +10,13 @@ pub(crate) fn put(words: &mut [u64], at: usize, row: &[u64]) {
     }
 }
 
-// The sum at each place: of the claims from place `j & (j + 1)` up to and with `j`, or the largest word where that is more.
+// The sum at each place: of all claims up to and with the one there, or the largest word where that is more.
 pub(crate) fn sums_over(claims: &[u64]) -> [u64; 1025] {
     let mut sums: [u64; 1025] = [0; 1025];
     for (j, sum) in sums.iter_mut().enumerate() {
         if j < claims.len() {
-            for i in j & (j + 1)..j + 1 {
-                *sum = sum.saturating_add(claims[i]);
+            for claim in &claims[..j + 1] {
+                *sum = sum.saturating_add(*claim);
             }
         }
     }
