@@ -23,7 +23,7 @@ pub(crate) const NOT_LENT: TurnedAway = TurnedAway {
 };
 
 // The three rows of a ledger, each as long as there are claims: these as they came, the same in order, and the sums over
-// those in order. Of the sums the one at place j begins with the claim at place j & (j + 1), and ends with that at place j.
+// those in order, each of all up to and with its place.
 pub(crate) type Ledger<'a> = [&'a [u64]; 3];
 
 // Puts words behind the first so many of others.

@@ -15,7 +15,7 @@ const FULL: Lent = ([3, 999_999_999_995, 3], 73, 48);
 const NO_DESK: Lent = ([MOST; 3], 73, 48);
 
 // What stands behind the header.
-const CLAIMS: Ledger = [&[300, 100, 200], &[100, 200, 300], &[100, 300, 300]];
+const CLAIMS: Ledger = [&[300, 100, 200], &[100, 200, 300], &[100, 300, 600]];
 
 // The bytes are turned away so, and no word is changed.
 fn turned_away(rt: &impl Abort, lent: Lent, bytes: &[u8], why: Refusal, place: Place) {

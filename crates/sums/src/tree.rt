@@ -56,7 +56,13 @@ impl<'a> Tree<'a> {
             filled: 0,
             steps: 0,
         };
-        let way = descend(height(self.claims.len()), start, self.sums, self.claims, target);
+        let way = descend(
+            height(self.claims.len()),
+            start,
+            self.sums,
+            self.claims,
+            target,
+        );
         let level = Fraction {
             numerator: target - total(&self.sums[..way.filled]),
             denominator: (self.claims.len() - way.filled) as u64,
