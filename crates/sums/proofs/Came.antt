@@ -1,6 +1,6 @@
 -- Of three rows that may hold anything, the claims as they came, after one more and after a change. Assumes nothing.
 use Rattle.std.proofs.Common.{◌≡◌, ℕ, ◌+◌, ◌*◌, ◌<◌, ◌≤◌, List, [], ◌∷◌, ◌++◌, length, take, drop, slice_set, length-append, length-drop, sym, ap, ◌∙◌, arith}
-use Rattle.std.proofs.lemmas.List.{length-set, length-take, length-take-le, take-take, take-append-le}
+use Rattle.std.proofs.lemmas.List.{length-set, length-take-le, take-take, take-append-le}
 use Rattle.register.specs.Rows.{middle}
 use Rattle.register.proofs.Came.{came_added, came_changed}
 use Rattle.sums.specs.Ledger.{room, register, resummed, Entered, Amended}

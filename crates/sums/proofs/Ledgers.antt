@@ -1,7 +1,6 @@
 -- A ledger keeps its claims, and the sums over those in order. Assumes nothing.
-use Rattle.std.proofs.Common.{◌≡◌, ℕ, ◌+◌, ◌-◌, ◌*◌, ◌/◌, ◌<◌, ◌≤◌, List, [], ◌∷◌, ◌++◌, length, take, drop, set, slice_index, slice_set, min, max, length-append, length-drop, get_or-drop, sum, refl, sym, ap, ◌∙◌, arith}
-use mathlib.Core.Logic.{◌⊎◌, inl}
-use Rattle.std.proofs.lemmas.List.{places, take-append-drop, take_at, ext_get_or, length-take-le, get_or-take, get_or-set_other, take-take, take-append-le, length-set, length_push}
+use Rattle.std.proofs.Common.{◌≡◌, ℕ, ◌+◌, ◌-◌, ◌*◌, ◌/◌, ◌<◌, ◌≤◌, List, [], ◌∷◌, ◌++◌, length, take, drop, set, slice_index, slice_set, min, length-append, length-drop, get_or-drop, refl, sym, ap, ◌∙◌, arith}
+use Rattle.std.proofs.lemmas.List.{places, take-append-drop, take_at, ext_get_or, get_or-take, get_or-set_other, take-take, take-append-le, length-set, length_push}
 use Rattle.std.proofs.lemmas.Slice.{drop-append-drop}
 use Rattle.std.proofs.lemmas.Grind.{elements}
 use Rattle.estate.specs.Order.{sorted}
@@ -9,7 +8,6 @@ use Rattle.estate.proofs.Ordered.{length-sorted, rising_sorted}
 use Rattle.register.specs.Row.{part, Carried}
 use Rattle.register.specs.Rows.{middle, kept, over}
 use Rattle.register.proofs.Keeping.{kept_long, kept_middle, kept_order, adds as register_adds, changes as register_changes, never_out_of_order as register_ordered}
-use Rattle.level.specs.Words.{held}
 use Rattle.sums.specs.Sums.{sums_from, sums_of}
 use Rattle.sums.specs.Ledger.{room, register, ledger, resummed}
 use Rattle.sums.specs.Laws.{Starts, Adds, Changes, NeverOutOfOrder, Reads}

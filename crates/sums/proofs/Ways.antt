@@ -14,8 +14,7 @@ use Rattle.estate.specs.Level.{fill}
 use Rattle.estate.proofs.Rows.{sum-cons}
 use Rattle.estate.proofs.Ordered.{rising_head, rising_tail}
 use Rattle.level.specs.Words.{held}
-use Rattle.level.specs.Levels.{level_of, Fills}
-use Rattle.level.specs.declared.filling.Fraction.{Fraction}
+use Rattle.level.specs.Levels.{Fills}
 use Rattle.sums.specs.Sums.{sums_of, total_of}
 use Rattle.sums.specs.Descending.{IsHeight, IsBehind, reach, start, further, way, Goes, level_behind}
 use Rattle.sums.specs.declared.descending.Way.{Way}
@@ -57,7 +56,7 @@ module _ (g h n p : ℕ) (ks ws : List ℕ) (w end : Way) (less : g ≡ suc h) (
   unfolding Goes way IsBehind
   goes_behind some past is = rw (less, sym is_behind) (grind (arith, nat_tests))
 
--- what is filled behind a node is as much as its sum
+-- what the words up to one tell is the last of them
 pub filled_behind : (p : ℕ) (ws : List ℕ) → 0 < p → p ≤ length ws → total_of (take p ws) ≡ slice_index ws (p - 1)
 filled_behind p ws some l = grind (arith, places)
 
@@ -73,13 +72,14 @@ pub ruleset behind = (behind_is, behind_room)
 
 pub ruleset goes = (goes_end, goes_lower, goes_before, goes_behind, filled_behind, some_behind, room_behind)
 
--- all claims up to the middle are filled, where more is left than would fill them and all others up to the last of them
+-- what the first k of claims come to that are all at least c
 at_least : (c k : ℕ) (ks : List ℕ) → All (λ x. c ≤ x) ks → k ≤ length ks → k * c ≤ sum (take k ks)
 at_least c zero ks above room = omega arith
 at_least c (suc k) [] above room = absurd (omega arith)
 at_least c (suc k) (x ∷ xs) above room =
     omega (arith, above 0 0 (omega arith), at_least c k xs (All-tail (λ y. c ≤ y) x xs above) (omega arith), sum-cons x (take k xs))
 
+-- the first claims are filled, where more is there than fills them, and all others as far as the last of them
 fill_past : (m p n : ℕ) (ks : List ℕ) → IsNonDecreasing ks → length ks ≡ suc m + p → sum (take (suc m) ks) + p * slice_index ks m < n → fill n ks ≡ fill (n - sum (take (suc m) ks)) (drop (suc m) ks)
 unfolding fill
 fill_past m p n [] rise long more = absurd (omega arith)
@@ -100,7 +100,7 @@ unfolding fill
 fill_here n [] ends = refl
 fill_here n (c ∷ cs) ends = grind (arith, nat_tests)
 
--- The first claims are filled, and the level lies before those behind which the part of the tree ends that is h high.
+-- The claims that are filled lie below the level, and it lies in that part of the tree behind them which is h high.
 record Between (h n : ℕ) (ks ws : List ℕ) (w : Way) : Type 0 where
   within : w.filled ≤ length ks
   past : (w.filled ≡ 0) ⊎ (reach w.filled ks ws < n)

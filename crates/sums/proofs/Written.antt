@@ -1,5 +1,5 @@
 -- Sums that are renewed from a place on. Assumes nothing.
-use Rattle.std.proofs.Common.{◌≡◌, ℕ, ◌+◌, ◌<◌, ◌≤◌, List, ◌∷◌, [], ◌++◌, length, take, drop, set, sum, slice_index, refl, sym, ap, ◌∙◌, arith, append_assoc, zero-add}
+use Rattle.std.proofs.Common.{◌≡◌, ℕ, ◌+◌, ◌<◌, ◌≤◌, List, ◌∷◌, [], ◌++◌, length, take, drop, set, sum, slice_index, sym, ap, ◌∙◌, arith, append_assoc, zero-add}
 use Rattle.std.proofs.lemmas.List.{take_all, drop_all, drop_more, take_more_set, append-nil, length-take, length-drop, length-append}
 use Rattle.level.specs.Words.{held}
 use Rattle.sums.specs.Sums.{sums_from, sums_of, total_of, renewed}

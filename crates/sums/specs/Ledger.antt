@@ -20,8 +20,8 @@ register ws = take (2 * room ws) ws
 abbrev pub ledger : List ℕ → List ℕ → List ℕ
 ledger ws cs = kept (register ws) cs ++ over (sums_of (sorted cs)) (drop (2 * room ws) ws)
 
--- Rows whose register has become `front`, in which the n claims in order may be others from place a on: so the sums over these
--- are renewed from there on. Every other word is as it was.
+-- Rows whose register has become `front`, in which the n claims in order may be others from place a on: so the sums are
+-- renewed from there on. Every other word is as it was.
 abbrev pub resummed : ℕ → ℕ → List ℕ → List ℕ → List ℕ
 resummed n a ws front =
     front ++ (renewed a (part (room ws) n front) (part (2 * room ws) n ws) ++ drop n (drop (2 * room ws) ws))

@@ -1,5 +1,5 @@
-// The way down a tree of sums. It begins at the node in the middle of all; what lies before a middle, and what lies behind it,
-// are trees of their own, one less high. A tree of height 0 has no node.
+// The way down a tree of sums. It begins at the node in the middle; what lies before it, and what lies behind it, are trees
+// of their own, one less high. A tree of height 0 has no node.
 ghost use Rattle.std.specs.Prelude.{◌≡◌, ◌≤◌, ◌<◌, ◌+◌, ◌*◌, ◌^◌, length, take};
 ghost use Rattle.sums.specs.Descending.{Goes, IsBehind, IsHeight};
 ghost use Rattle.sums.specs.Sums.{total_of};
@@ -29,7 +29,7 @@ pub(crate) struct Way {
 }
 
 impl Way {
-    // The place behind the middle of the tree on the way, which is one higher than this.
+    // The place behind the middle of the tree that is left, which is one higher than this.
     #[tactic(auto, using(crate::proofs::Ways::behind))]
     fn behind(self, height: u32) -> usize
         requires word { height < 64 }
@@ -39,7 +39,7 @@ impl Way {
         self.filled + (1 << height)
     }
 
-    // Decided at one more node, that so many claims are filled.
+    // Decided at one more node; so many claims are filled now.
     fn further(self, filled: usize) -> Self
         requires { self.steps < 64 }
         ensures { result ≡ record { filled = filled; steps = self.steps + 1 } }
@@ -51,8 +51,8 @@ impl Way {
     }
 }
 
-// Goes on down a tree so high, which begins behind the claims that are filled. All claims up to the middle are filled too if
-// the target is more than they come to and as much for each claim behind them as the last of them; otherwise the level lies
+// Goes on down a tree so high, which begins behind the claims that are filled. All up to the middle are filled too if the
+// target is more than they come to and as much for each claim behind them as the last of them; otherwise the level lies
 // before the middle.
 #[tactic(auto, using(crate::proofs::Ways::goes))]
 pub(crate) fn descend(height: u32, way: Way, sums: &[u64], claims: &[u64], target: u64) -> Way
