@@ -32,9 +32,9 @@ module _ (d : ℕ) (xs : List ℕ) (parted : 0 < d) where
     unfolding lack
     most_still all k = grind (arith, this, others k, all k)
 
-    pub less_before : 0 < most → ((k : ℕ) → k < i → lack d up xs k < most) → (k : ℕ) → k < i + 1 → lack d also xs k < most
+    pub still_before : (next : ℕ) → ((k : ℕ) → k < i → lack d up xs k ≤ next) → (k : ℕ) → k < i + 1 → lack d also xs k ≤ next
     unfolding lack
-    less_before some before k l = grind (arith, this, others k, before k, some)
+    still_before next before k l = grind (arith, this, others k, before k)
 
     module _ (all : (k : ℕ) → lack d up xs k ≤ most) (some : 0 < most) (it : lack d up xs i ≡ most) (before : (k : ℕ) → k < i → lack d up xs k < most) where
       not_yet : (up i ≡ false) × (0 < get_or xs i 0 % d)

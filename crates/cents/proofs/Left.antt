@@ -1,8 +1,7 @@
 -- How many cents are left. Assumes nothing.
-use Rattle.std.proofs.Common.{◌≡◌, ◌≢◌, ℕ, ◌+◌, ◌-◌, ◌*◌, ◌/◌, ◌%◌, ◌<◌, List, [], ◌∷◌, take, slice_get, sum, Some, refl, sym, ap, ◌∙◌, arith}
+use Rattle.std.proofs.Common.{◌≡◌, ◌≢◌, ℕ, ◌+◌, ◌-◌, ◌*◌, ◌/◌, ◌%◌, ◌<◌, List, [], ◌∷◌, length, get_or, take, sum, refl, sym, ap, ◌∙◌, arith}
 use Rattle.std.proofs.Math.Nat.{add-mul-mod_self_right, add-mul-div_right}
 use Rattle.std.proofs.lemmas.List.Sums.{sum_by-cons, sum_by_more}
-use Rattle.std.proofs.lemmas.Option.{slice_get_within, get_or_from_slice_get}
 use Rattle.estate.specs.Cents.{downs, give_left, in_cents}
 use Rattle.cents.specs.Rounding.{lacking}
 use Rattle.estate.proofs.Rows.{sum-cons}
@@ -25,10 +24,9 @@ module _ (d : ℕ) where
   unfolding lacking
   lacking_start = refl
 
-  pub lacking_more : (i x r s : ℕ) (xs : List ℕ) → r ≡ x % d → slice_get xs i ≡ Some x → s ≡ lacking d (take i xs) → s + r ≡ lacking d (take (i + 1) xs)
+  pub lacking_more : (i r s : ℕ) (xs : List ℕ) → r ≡ get_or xs i 0 % d → i < length xs → s ≡ lacking d (take i xs) → s + r ≡ lacking d (take (i + 1) xs)
   unfolding lacking
-  lacking_more i x r s xs p h q =
-      omega (arith, p, q, sum_by_more (λ y. y % d) xs i 0 (slice_get_within xs i x h), ap (λ y. y % d) (get_or_from_slice_get xs i x 0 h))
+  lacking_more i r s xs p h q = omega (arith, p, q, sum_by_more (λ y. y % d) xs i 0 h)
 
 pub ruleset lacking_steps = (lacking_start, lacking_more)
 

@@ -8,17 +8,18 @@ use Rattle.estate.specs.Right.{MaySay}
 use Rattle.estate.proofs.Facts.{facts}
 use Rattle.estate.proofs.WholeCents.{cents_rounded, cents_add_up}
 use Rattle.estate.proofs.RightAnswers.{cents_one_answer}
-use Rattle.shares.specs.declared.written.Shares.{Shares}
-use Rattle.shares.specs.Shares.{parts_word, shares_on, shares_of}
+use Rattle.shares.specs.Shares.{parts_word, shares_on}
 use Rattle.shares.proofs.Divided.{shares_divide}
+use Rattle.cents.specs.declared.split.Split.{Split}
 use Rattle.cents.specs.declared.whole.Cents.{Cents}
 use Rattle.cents.specs.declared.whole.CentsError.{CentsError}
 use Rattle.cents.specs.declared.whole.CentsError.TheVariants.{NoParts, TooMany, NotWhole}
+use Rattle.cents.specs.Parted.{split_parts, split_items}
 use Rattle.cents.specs.Whole.{cents_of}
 use Rattle.cents.specs.Laws.{Whole, AllCome, Paid, CentsPay}
 
-module _ {L : Type 0} (items : L → List ℕ) where
-  pub all_come : AllCome items
+module _ {P : Type 0} (parts : P → ℕ) (items : P → List ℕ) where
+  pub all_come : AllCome parts items
   all_come d e xs (Err NoParts) parted few sums c = omega (arith, parted, c)
   all_come d e xs (Err TooMany) parted few sums c = omega (arith, few, c.1)
   all_come d e xs (Err NotWhole) parted few sums c = c.2 (ap (λ n. n % d) sums ∙ mul-mod_right d e)
@@ -32,9 +33,9 @@ unfolding MaySay
 cents_pay e ks t r f c =
     let p = shares_divide e ks t f in
     let q = facts _ _ _ _ p.divides in
-    paid r (all_come shares_of _ (divided e) (shares_on t (counted e)) r q.parted (omega (arith, q.paired, f.within.few)) q.whole c)
+    paid r (all_come split_parts split_items _ (divided e) (shares_on t (counted e)) r q.parted (omega (arith, q.paired, f.within.few)) q.whole c)
   where
-    paid : (r : Result (Cents Shares) CentsError) → IsOkAnd r (λ c. Whole (parts_word t) (divided e) (shares_on t (counted e)) (cents_of shares_of c)) → IsOkAnd r (λ c. Paid e t (cents_of shares_of c))
+    paid : (r : Result (Cents Split) CentsError) → IsOkAnd r (λ c. Whole (parts_word t) (divided e) (shares_on t (counted e)) (cents_of split_parts split_items c)) → IsOkAnd r (λ c. Paid e t (cents_of split_parts split_items c))
     paid (Err why) w = w
     paid (Ok k) w =
         let p = shares_divide e ks t f in

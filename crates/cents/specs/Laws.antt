@@ -7,8 +7,9 @@ use Rattle.estate.specs.Cents.{in_cents, Near, Pays}
 use Rattle.estate.specs.Estates.{Estate, counted, divided}
 use Rattle.estate.specs.Right.{says}
 use Rattle.level.specs.declared.closed.Terms.{Terms}
-use Rattle.shares.specs.Shares.{parts_word, shares_on, shares_of}
+use Rattle.shares.specs.Shares.{parts_word, shares_on}
 use Rattle.shares.specs.Laws.{TermsFor, Divided}
+use Rattle.cents.specs.Parted.{split_parts, split_items}
 use Rattle.cents.specs.Whole.{cents_of, Comes}
 
 -- The cents ys are those that come of the shares xs, in d-ths of a cent, and of e cents: an amount for each share, together
@@ -20,9 +21,9 @@ pub record Whole (d e : ℕ) (xs ys : List ℕ) : Type 0 where
   pub near : (i : ℕ) → Near d (slice_index xs i) (slice_index ys i)
 
 -- They come of all shares that add up to whole cents, up to as many as there may be creditors.
-abbrev pub AllCome : {L : Type 0} → (L → List ℕ) → Type 0
-AllCome items =
-    (d e : ℕ) (xs : List ℕ) (r : _) → 0 < d → length xs ≤ most_creditors → sum xs ≡ d * e → Comes items d xs r → IsOkAnd r (λ c. Whole d e xs (cents_of items c))
+abbrev pub AllCome : {P : Type 0} → (P → ℕ) → (P → List ℕ) → Type 0
+AllCome parts items =
+    (d e : ℕ) (xs : List ℕ) (r : _) → 0 < d → length xs ≤ most_creditors → sum xs ≡ d * e → Comes parts items d xs r → IsOkAnd r (λ c. Whole d e xs (cents_of parts items c))
 
 -- The cents ys are paid to an estate on these terms: its shares divide it, the cents come of these shares, there is an
 -- amount for each claim, together what is divided, each less than a cent away from the share, and none above the claim. It
@@ -36,7 +37,7 @@ pub record Paid (e : Estate) (t : Terms) (ys : List ℕ) : Type 0 where
 -- So it is with every estate within the limits, on the terms that are found for it.
 abbrev pub CentsPay : Type 0
 CentsPay =
-    (e : Estate) (ks : List ℕ) (t : Terms) (r : _) → TermsFor e ks t → Comes shares_of (parts_word t) (shares_on t (counted e)) r → IsOkAnd r (λ c. Paid e t (cents_of shares_of c))
+    (e : Estate) (ks : List ℕ) (t : Terms) (r : _) → TermsFor e ks t → Comes split_parts split_items (parts_word t) (shares_on t (counted e)) r → IsOkAnd r (λ c. Paid e t (cents_of split_parts split_items c))
 
 -- When the shares of such an estate are rounded down, what each creditor then lacks of its share is nothing, half a cent, or
 -- one other amount.

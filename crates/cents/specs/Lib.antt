@@ -1,4 +1,5 @@
 pub mod Marks
 pub mod Rounding
+pub mod Parted
 pub mod Whole
 pub mod Laws

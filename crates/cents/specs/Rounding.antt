@@ -1,10 +1,9 @@
 -- Shares rounded to whole cents, and what is then lacking. Assumes nothing.
-use Rattle.std.specs.Prelude.{ℕ, suc, ◌/◌, ◌%◌, Bool, List, [], ◌∷◌, if◌then◌else◌, slice_index}
+use Rattle.std.specs.Prelude.{ℕ, suc, ◌-◌, ◌/◌, ◌%◌, Bool, true, false, List, [], ◌∷◌, if◌then◌else◌, slice_index}
 use Rattle.std.specs.Int.{div_ceil}
 use Rattle.std.specs.List.{sum_by}
 use Rattle.estate.specs.Cents.{give_left}
 use Rattle.cents.specs.declared.bits.Marks.{Marks}
-use Rattle.cents.specs.declared.rounding.Rounding.{Rounding}
 use Rattle.cents.specs.Marks.{is_marked}
 
 -- a share of d-ths of a cent, rounded up or down
@@ -28,16 +27,26 @@ lacking d xs = sum_by (λ x. x % d) xs
 abbrev pub given : ℕ → List ℕ → ℕ → (ℕ → Bool) → List ℕ
 given d xs n up = give_left n d xs (rounded_all d up xs)
 
-module _ {L : Type 0} (items : L → List ℕ) where
-  -- the same of a `Rounding`, whose shares are rounded up for who is marked
-  abbrev pub lacking_of : Rounding L → ℕ
-  lacking_of r = lacking r.parts (items r.shares)
+-- Where n of the parts of which a cent has d are levelled, a claim above the level has so many whole cents, or loses them,
+-- and so much is left of it.
+abbrev pub level_whole : Bool → ℕ → ℕ → ℕ
+level_whole true d n = n / d
+level_whole false d n = div_ceil n d
 
-  abbrev pub cents_with : Rounding L → Marks → List ℕ
-  cents_with r more = rounded_all r.parts (is_marked more) (items r.shares)
+abbrev pub level_left : Bool → ℕ → ℕ → ℕ
+level_left true d n = n % d
+level_left false d n = (d - n % d) % d
 
-  abbrev pub lack_of : Rounding L → Marks → ℕ → ℕ
-  lack_of r more i = lack r.parts (is_marked more) (items r.shares) i
+module _ {P : Type 0} (parts : P → ℕ) (items : P → List ℕ) where
+  -- the same of shares as the code has them, rounded up for who is marked
+  abbrev pub lacking_of : P → ℕ
+  lacking_of p = lacking (parts p) (items p)
 
-  abbrev pub given_of : Rounding L → ℕ → Marks → List ℕ
-  given_of r n more = given r.parts (items r.shares) n (is_marked more)
+  abbrev pub lack_of : P → Marks → ℕ → ℕ
+  lack_of p more i = lack (parts p) (is_marked more) (items p) i
+
+  abbrev pub cents_with : P → Marks → List ℕ
+  cents_with p more = rounded_all (parts p) (is_marked more) (items p)
+
+  abbrev pub given_of : P → ℕ → Marks → List ℕ
+  given_of p n more = given (parts p) (items p) n (is_marked more)

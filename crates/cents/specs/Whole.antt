@@ -7,14 +7,14 @@ use Rattle.cents.specs.declared.whole.CentsError.{CentsError}
 use Rattle.cents.specs.declared.whole.CentsError.TheVariants.{NoParts, TooMany, NotWhole}
 use Rattle.cents.specs.Rounding.{cents_with}
 
-module _ {L : Type 0} (items : L → List ℕ) where
+module _ {P : Type 0} (parts : P → ℕ) (items : P → List ℕ) where
   -- the amounts, one for each share
-  abbrev pub cents_of : Cents L → List ℕ
-  cents_of c = cents_with items c.rounding c.more
+  abbrev pub cents_of : Cents P → List ℕ
+  cents_of c = cents_with parts items c.shares c.more
 
   -- What comes of shares xs in d-ths of a cent: whole cents by the definition, or why there are none. The first that
   -- applies is the answer.
-  abbrev pub Comes : ℕ → List ℕ → Result (Cents L) CentsError → Type 0
+  abbrev pub Comes : ℕ → List ℕ → Result (Cents P) CentsError → Type 0
   Comes d xs (Err NoParts) = d ≡ 0
   Comes d xs (Err TooMany) = (0 < d) × (most_creditors < length xs)
   Comes d xs (Err NotWhole) = (0 < d) × (length xs ≤ most_creditors) × (sum xs % d ≢ 0)

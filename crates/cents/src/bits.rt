@@ -1,5 +1,5 @@
 // A mark for each creditor, as the bits of numbers.
-ghost use Rattle.std.specs.Prelude.{◌≡◌, ◌≢◌, ℕ, ◌<◌, true, false};
+ghost use Rattle.std.specs.Prelude.{◌≡◌, ◌≢◌, ℕ, ◌<◌, false, ◌||◌};
 ghost use Rattle.estate.specs.Limits.{most_creditors};
 
 use estate::MOST_CREDITORS;
@@ -33,12 +33,13 @@ impl Marks {
         *word >> (i % 64) & 1 == 1
     }
 
+    // Marks one, or leaves it as it is.
     #[tactic(auto, using(crate::proofs::Marking::this_marked, crate::proofs::Marking::other_marked), unfolding(crate::specs::Marks::is_marked))]
-    pub(crate) fn mark(&mut self, i: usize)
+    pub(crate) fn mark(&mut self, i: usize, also: bool)
         requires { i < most_creditors }
-        ensures this { is_marked self.new i ≡ true }
+        ensures this { is_marked self.new i ≡ also || is_marked self.old i }
         ensures others { (k : ℕ) → k ≢ i → is_marked self.new k ≡ is_marked self.old k }
     {
-        self.words[i / 64] |= 1 << (i % 64);
+        self.words[i / 64] |= u64::from(also) << (i % 64);
     }
 }

@@ -5,7 +5,9 @@ ghost use Rattle.wire.specs.Meaning.{told};
 ghost use Rattle.wire.specs.Written.{Written};
 
 use crate::bits::Marks;
-use crate::rounding::Rounding;
+use crate::parted::{Handed, Parted};
+use crate::rounding::{give, lacking};
+use crate::split::Split;
 use estate::MOST_CREDITORS;
 use shares::Shares;
 use std::error::Error;
@@ -39,31 +41,32 @@ impl fmt::Display for CentsError {
 
 impl Error for CentsError {}
 
-// What each creditor has in whole cents: its share rounded down, or up if it has one of the cents that were left.
+// What each creditor has in whole cents: its share rounded down, and one cent more if it has one of those that were left.
 #[derive(Debug, Drop)]
-pub struct Cents<L> {
-    rounding: Rounding<L>,
+pub struct Cents<P> {
+    shares: P,
     more: Marks,
 }
 
-impl<L: Numbers> Numbers for Cents<L> {
+impl<P: Parted> Numbers for Cents<P> {
     ghost use Rattle.cents.specs.Whole.{cents_of};
 
-    ghost items = { cents_of L.items };
+    ghost items = { cents_of P.parts P.items };
 
     #[tactic(auto, using(crate::proofs::Amounts::count))]
     fn count(&self) -> usize {
-        self.rounding.shares.count()
+        self.shares.count()
     }
 
     #[tactic(auto, using(crate::proofs::Amounts::get))]
     fn get(&self, i: usize) -> Option<u64> {
-        let share = self.rounding.shares.get(i)?;
-        Some(if self.more.has(i) {
-            share.div_ceil(self.rounding.parts)
-        } else {
-            share / self.rounding.parts
-        })
+        if i >= self.shares.count() {
+            return None;
+        }
+        let (whole, left) = self.shares.at(i);
+        // Not by branches, which no processor can foretell.
+        let more = (left > 0) & self.more.has(i);
+        Some(whole + u64::from(more))
     }
 
     #[tactic(auto, using(crate::proofs::Amounts::put), unfolding(wire::specs::Bytes::eight))]
@@ -81,38 +84,33 @@ impl<L: Numbers> Numbers for Cents<L> {
     }
 }
 
-impl<L: Numbers + Drop> Cents<L> {
-    ghost use Rattle.cents.specs.Laws.{AllCome};
+impl<P: Parted + Drop> Cents<P> {
     ghost use Rattle.cents.specs.Whole.{Comes};
 
-    // The whole cents that come of shares, in parts of a cent.
-    #[tactic(auto, using(crate::proofs::Left::new, crate::proofs::Pay::all_come))]
-    pub fn new(parts: u64, shares: L) -> Result<Self, CentsError>
-        ensures comes { Comes L.items parts (L.items shares) result }
-        ensures all_come { AllCome L.items }
+    // The whole cents that come of shares.
+    #[tactic(auto, using(crate::proofs::Left::new))]
+    fn round(shares: P) -> Result<Self, CentsError>
+        ensures { Comes P.parts P.items (P.parts shares) (P.items shares) result }
     {
-        if parts == 0 {
-            return Err(CentsError::NoParts);
-        }
         if shares.count() > MOST_CREDITORS {
             return Err(CentsError::TooMany);
         }
-        let rounding = Rounding { parts, shares };
-        let lacking = rounding.lacking();
-        if lacking % u128::from(parts) != 0 {
+        let (lacking, most) = lacking(&shares);
+        let parts = u128::from(shares.parts());
+        if lacking % parts != 0 {
             return Err(CentsError::NotWhole);
         }
-        let more = rounding.give(lacking / u128::from(parts));
-        Ok(Cents { rounding, more })
+        let more = give(&shares, lacking / parts, most);
+        Ok(Cents { shares, more })
     }
 }
 
-impl<L: Numbers> Cents<L> {
+impl<P: Parted> Cents<P> {
     ghost use Rattle.cents.specs.Whole.{cents_of};
 
     // The answer to the call for cents.
     pub fn answer(self) -> Answer<Self>
-        ensures { told (cents_of L.items) result ≡ amounts (cents_of L.items self) }
+        ensures { told (cents_of P.parts P.items) result ≡ amounts (cents_of P.parts P.items self) }
     {
         Answer::Amounts(self)
     }
@@ -120,7 +118,7 @@ impl<L: Numbers> Cents<L> {
     // Writes the cents at the start of lent words, and says how many there are.
     #[tactic(auto, using(crate::proofs::Amounts::write))]
     pub fn write(&self, out: &mut [u64]) -> Result<usize, Refusal>
-        ensures { Written (cents_of L.items self.now) out.old out.new result }
+        ensures { Written (cents_of P.parts P.items self.now) out.old out.new result }
     {
         let count = self.count();
         if out.len() < count {
@@ -133,19 +131,38 @@ impl<L: Numbers> Cents<L> {
     }
 }
 
-impl<'a> Cents<Shares<'a>> {
+impl<L: Numbers + Drop> Cents<Handed<L>> {
+    ghost use Rattle.cents.specs.Laws.{AllCome};
+    ghost use Rattle.cents.specs.Parted.{handed_parts, handed_items};
+    ghost use Rattle.cents.specs.Whole.{Comes};
+
+    // The whole cents that come of shares, in parts of a cent.
+    #[tactic(auto, using(crate::proofs::Pay::all_come))]
+    pub fn new(parts: u64, shares: L) -> Result<Self, CentsError>
+        ensures comes { Comes handed_parts (handed_items L.items) parts (L.items shares) result }
+        ensures all_come { AllCome handed_parts (handed_items L.items) }
+    {
+        if parts == 0 {
+            return Err(CentsError::NoParts);
+        }
+        Cents::round(Handed { parts, shares })
+    }
+}
+
+impl<'a> Cents<Split<'a>> {
     ghost use Rattle.cents.specs.Laws.{CentsPay, FewRemainders};
+    ghost use Rattle.cents.specs.Parted.{split_parts, split_items};
     ghost use Rattle.cents.specs.Whole.{Comes};
     ghost use Rattle.shares.specs.Shares.{parts_word, shares_of};
 
     // The whole cents of claims on the terms of a division.
     #[tactic(auto, using(crate::proofs::Pay::cents_pay, crate::proofs::Remainders::few_remainders))]
     pub fn of(shares: Shares<'a>) -> Result<Self, CentsError>
-        ensures comes { Comes shares_of (parts_word shares.entry.terms)
+        ensures comes { Comes split_parts split_items (parts_word shares.entry.terms)
             (shares_of shares.entry) result }
         ensures cents_pay { CentsPay }
         ensures few_remainders { FewRemainders }
     {
-        Cents::new(shares.terms.parts(), shares)
+        Cents::round(Split::new(shares))
     }
 }

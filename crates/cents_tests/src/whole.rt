@@ -1,10 +1,10 @@
 // Estates with their whole cents, worked out by hand: as words and as the bytes of an answer.
-use cents::Cents;
+use cents::{Cents, Parted, Split};
 use level::terms_of;
 use shares::Shares;
 use std::alloc::Global;
 use std::process::Abort;
-use wire::{Answer, Numbers, Refusal};
+use wire::{Answer, Refusal};
 
 // What is there, the claims as they came and in ascending order, and the cents. The shares are
 // 33 1/3 each; 50, 75, 75; 50, 100, 150; 1 2/3 each; 1/2 each; 1 3/4 each; all that is claimed; of
@@ -41,7 +41,7 @@ const PAID: &[(u64, &[u64], &[u64], &[u64])] = &[
 ];
 
 // The cents of what is there, with the claims as they came and in ascending order.
-fn paid<'a>(rt: &impl Abort, there: u64, claims: &'a [u64], in_order: &[u64]) -> Cents<Shares<'a>> {
+fn paid<'a>(rt: &impl Abort, there: u64, claims: &'a [u64], in_order: &[u64]) -> Cents<Split<'a>> {
     let terms = terms_of(there, in_order).expect(rt, "no terms");
     let shares = Shares { terms, claims };
     Cents::of(shares).ok().expect(rt, "no cents")
@@ -55,7 +55,7 @@ fn assert_written(rt: &impl Abort, out: &[u64], words: &[u64]) {
 }
 
 // The cents are written as these words, and what lies behind them stays.
-pub(crate) fn assert_words<L: Numbers + Copy>(rt: &impl Abort, cents: Cents<L>, words: &[u64]) {
+pub(crate) fn assert_words<P: Parted + Drop>(rt: &impl Abort, cents: Cents<P>, words: &[u64]) {
     let mut out = [170; 1025];
     assert!(rt; cents.write(&mut out) == Ok(words.len()));
     assert_written(rt, &out, words);

@@ -11,8 +11,10 @@ use Rattle.shares.specs.declared.written.Shares.{Shares}
 use Rattle.shares.specs.Shares.{parts_word, share_word, shares_of}
 use Rattle.shares.specs.Laws.{TermsFor}
 use Rattle.shares.proofs.Divided.{shares_divide}
+use Rattle.cents.specs.declared.split.Split.{Split}
 use Rattle.cents.specs.declared.whole.Cents.{Cents}
 use Rattle.cents.specs.declared.whole.CentsError.{CentsError}
+use Rattle.cents.specs.Parted.{split_parts, split_items}
 use Rattle.cents.specs.Whole.{cents_of, Comes}
 use Rattle.cents.specs.Laws.{Paid}
 use Rattle.cents.proofs.Pay.{cents_pay}
@@ -72,21 +74,21 @@ module _ (m out : List ℕ) (lent : Lent m out) where
         record { memory = d.laid; answer = is ∙ rw parted.1 (shares_divide (estate_of m) f.0 s.terms f.1).said } in
         answered_by shares m sent a r refl (rw is refl) (rw is (omega (arith, few, lent.bytes, length-row))) served (refl, _, _, is) (unchanged m) w
 
-    module _ (r : Result (Cents Shares) CentsError) (comes : Comes shares_of (parts_word s.terms) (shares_of s) r) where
-      cents_room : (k : Cents Shares) → r ≡ Ok k → length (answer_row (amounts (cents_of shares_of k))) ≤ length out
+    module _ (r : Result (Cents Split) CentsError) (comes : Comes split_parts split_items (parts_word s.terms) (shares_of s) r) where
+      cents_room : (k : Cents Split) → r ≡ Ok k → length (answer_row (amounts (cents_of split_parts split_items k))) ≤ length out
       cents_room k done =
           let c = rw done at comes in
           let whole : sum (shares_of s) ≡ parts_word s.terms * (sum (shares_of s) / parts_word s.terms) = omega (arith, c.0, c.2) in
           let long = (cents_rounded (parts_word s.terms) _ (shares_of s) c.0 whole).paired in
           rw c.3 (omega (arith, long, few, lent.bytes, length-row))
 
-      paid : (d : Stands m) → IsOkAnd r (λ c. Paid (estate_of m) s.terms (cents_of shares_of c))
+      paid : (d : Stands m) → IsOkAnd r (λ c. Paid (estate_of m) s.terms (cents_of split_parts split_items c))
       unfolding Parted
       paid d =
           let f = terms_for d in
           cents_pay (estate_of m) f.0 s.terms r f.1 (rw parted.1 at comes)
 
-      pub cents_done : (k : Cents Shares) (a : Answer) (sent : List ℕ) (v : Result ℕ TurnedAway) → r ≡ Ok k → a ≡ amounts (cents_of shares_of k) → Sends a out sent v → Called cents m m out sent v
+      pub cents_done : (k : Cents Split) (a : Answer) (sent : List ℕ) (v : Result ℕ TurnedAway) → r ≡ Ok k → a ≡ amounts (cents_of split_parts split_items k) → Sends a out sent v → Called cents m m out sent v
       cents_done k a sent v done is w =
           let served : Stands m → Served cents m m a = λ d. record { memory = d.laid; answer = is ∙ (rw done at (paid d)).said } in
           answered_by cents m sent a v refl (rw is refl) (rw is (cents_room k done)) served (refl, inl (_, is)) (unchanged m) w

@@ -6,4 +6,4 @@ use Rattle.cents.proofs.whole.CentsNumbers.put.Given as goal
 
 abbrev pub invariant-loop-i : goal.invariant-loop-i
 invariant-loop-i g l =
-    l.out ≡ flat_map eight (take l.i (cents_of g.L.Numbers.items l.self)) ++ drop (8 * l.i) l.fn.out
+    l.out ≡ flat_map eight (take l.i (cents_of g.P.Parted.parts g.P.Parted.items l.self)) ++ drop (8 * l.i) l.fn.out

@@ -1,0 +1,86 @@
+-- The shares of claims on the terms of a division, without a division for each. Assumes nothing.
+use Rattle.std.proofs.Common.{◌≡◌, ℕ, ◌+◌, ◌-◌, ◌*◌, ◌/◌, ◌%◌, ◌<◌, ◌≤◌, zero, suc, Bool, true, false, refl, sym, ap, ◌∙◌, arith}
+use Rattle.std.proofs.Math.Nat.{add-mul-div_left, add-mul-mod_self_left, div-eq_of_lt, mod-eq_of_lt, mod_self, mul-le-mul_left, mul-le-mul, mul-div-le, lt-mul-div-succ, div-lt_iff_lt-mul, le-mul_of_pos_right}
+use Rattle.estate.specs.Closed.{share}
+use Rattle.std.specs.Int.{div_ceil}
+use Rattle.std.proofs.lemmas.Bool.{false≢true}
+use Rattle.cents.specs.Rounding.{level_whole, level_left}
+use Rattle.level.specs.Words.{held}
+
+-- what a whole number of cents and less than a cent more comes to
+divided : (x d q r : ℕ) → x ≡ d * q + r → r < d → (x / d ≡ q) × (x % d ≡ r)
+divided x d q r e l =
+    let s : x ≡ r + d * q = omega (arith, e) in
+    let some : 0 < d = omega (arith, l) in
+    (omega (arith, ap (λ k. k / d) s, add-mul-div_left r q some, div-eq_of_lt l), omega (arith, ap (λ k. k % d) s, add-mul-mod_self_left r d q, mod-eq_of_lt l))
+
+-- n is spread among m sharers, so that a cent has d parts
+module _ (m n d : ℕ) (some : 0 < m) (double : d ≡ 2 * m) (word : n ≤ 18446744073709551615) where
+  -- what a claim of c gets, as a word holds it
+  abbrev got : Bool → ℕ → ℕ
+  got b c = held (share b (record { spread = n; sharers = m }) c)
+
+  -- a claim up to the level has half of what it is
+  module _ (c : ℕ) (up_to : c ≤ n / m) where
+    under : m * c ≤ n
+    under = omega (arith, mul-le-mul_left m up_to, mul-div-le n m)
+
+    exact : (b : Bool) → got b c ≡ m * c
+    exact true = omega (arith, under, word)
+    exact false = omega (arith, under, word)
+
+    pub filled : (b : Bool) → (got b c / d ≡ c / 2) × (got b c % d ≡ m * (c % 2))
+    filled b =
+        let twice : c ≡ 2 * (c / 2) + c % 2 = omega arith in
+        let odd : c % 2 ≤ 1 = omega arith in
+        divided (got b c) d (c / 2) (m * (c % 2))
+            (rw double (omega (arith, exact b, ap (λ k. m * k) twice)))
+            (omega (arith, double, some, mul-le-mul_left m odd))
+
+  -- a larger one has the level or loses it
+  module _ (c : ℕ) (above : n / m < c) (few : c ≤ 4294967295) (parts : d ≤ 4294967295) where
+    past : n < m * c
+    past = omega (arith, lt-mul-div-succ n some, mul-le-mul_left m above)
+
+    fits : 2 * m * c ≤ 18446744065119617025
+    fits = rw double at (mul-le-mul parts few)
+
+    gained : got true c ≡ n
+    gained = omega (arith, past, word)
+
+    lost : got false c ≡ d * c - n
+    lost = rw double (omega (arith, past, fits))
+
+    -- what it loses in whole cents is less than the claim
+    less : n / d < c
+    less = rw double ((div-lt_iff_lt-mul {k = 2 * m} {x = n} {y = c} (omega (arith, some))).1 (omega (arith, past)))
+
+    -- what is left of the cents that it loses
+    abbrev off : ℕ
+    off = div_ceil n d
+
+    level_lost : (got false c / d ≡ c - off) × (got false c % d ≡ (d - n % d) % d) × (off ≤ c)
+    level_lost = decided (n % d) refl
+      where
+        decided : (over : ℕ) → n % d ≡ over → (got false c / d ≡ c - off) × (got false c % d ≡ (d - n % d) % d) × (off ≤ c)
+        decided zero e =
+            let rest : c ≡ c - n / d + n / d = omega (arith, less) in
+            let none : d - n % d ≡ d = omega (arith, e) in
+            let p = divided (got false c) d (c - n / d) 0 (omega (arith, lost, ap (λ k. d * k) rest, double, some, e)) (omega (arith, double, some)) in
+            (omega (arith, p.0, less, e), rw none (p.1 ∙ sym (mod_self d)), omega (arith, less, e))
+        decided (suc k) e =
+            let rest : c ≡ c - (n / d + 1) + (n / d + 1) = omega (arith, less) in
+            let p = divided (got false c) d (c - (n / d + 1)) (d - n % d) (omega (arith, lost, ap (λ k. d * k) rest, double, some, e)) (omega (arith, double, some, e)) in
+            (omega (arith, p.0, less, e), p.1 ∙ sym (mod-eq_of_lt (omega (arith, double, some, e))), omega (arith, less, e))
+
+    pub whole_gained : (b : Bool) → b ≡ true → got b c / d ≡ level_whole b d n
+    whole_gained true is = ap (λ k. k / d) gained
+    whole_gained false is = absurd (false≢true is)
+
+    pub whole_lost : (b : Bool) → b ≡ false → got b c / d + level_whole b d n ≡ c
+    whole_lost true is = absurd (false≢true (sym is))
+    whole_lost false is = omega (arith, level_lost.0, level_lost.2)
+
+    pub left : (b : Bool) → got b c % d ≡ level_left b d n
+    left true = ap (λ k. k % d) gained
+    left false = level_lost.1

@@ -1,0 +1,120 @@
+// The shares of claims on the terms of a division, as whole cents without a division for each.
+ghost use Rattle.std.specs.Prelude.{◌≡◌, ℕ, true, false, ◌+◌, ◌*◌, ◌/◌, ◌%◌, ◌<◌, ◌≤◌};
+ghost use Rattle.level.specs.Sides.{gains};
+ghost use Rattle.cents.specs.Rounding.{level_whole, level_left};
+ghost use Rattle.shares.specs.Shares.{parts_word, share_word, shares_of};
+
+use crate::parted::Parted;
+use level::{Side, Terms};
+use shares::{Shares, share};
+use wire::Numbers;
+
+// Up to here claims, and parts of a cent, come to no more than a word: none of an estate within the limits is larger.
+const MOST_CLAIM: u64 = 0xffff_ffff;
+
+// The shares of claims, and what is the same for all: worked out once, so that no claim needs a division. A claim up to
+// `filled` has half of what it is; a larger one has the level or loses it, of which the whole cents and what is left are known.
+// Claims above `most`, of which no estate within the limits has any, are divided each.
+#[derive(Clone, Copy, Debug)]
+pub struct Split<'a> {
+    pub(crate) shares: Shares<'a>,
+    pub(crate) parts: u64,
+    half: u64,
+    filled: u64,
+    most: u64,
+    level: u64,
+    left: u64,
+    ghost parted: { 0 < parts },
+    ghost filled_whole: { (c : ℕ) → c ≤ filled → share_word shares.terms c / parts ≡ c / 2 },
+    ghost filled_left: { (c : ℕ) → c ≤ filled → share_word shares.terms c % parts ≡ half * (c % 2) },
+    ghost gained: { gains shares.terms.side ≡ true → (c : ℕ) → filled < c → c ≤ most
+        → share_word shares.terms c / parts ≡ level },
+    ghost lost: { gains shares.terms.side ≡ false → (c : ℕ) → filled < c → c ≤ most
+        → share_word shares.terms c / parts + level ≡ c },
+    ghost level_left: { (c : ℕ) → filled < c → c ≤ most → share_word shares.terms c % parts ≡ left },
+}
+
+impl Parted for Split<'_> {
+    ghost parts = { λ s. s.parts };
+
+    ghost items = { λ s. shares_of s.shares };
+
+    fn count(&self) -> usize {
+        self.shares.count()
+    }
+
+    fn parts(&self) -> u64 {
+        self.parts
+    }
+
+    #[tactic(auto, using(crate::proofs::Amounts::at_steps))]
+    fn at(&self, i: usize) -> (u64, u64) {
+        let Some(claim) = self.shares.claims.get(i) else {
+            return (0, 0);
+        };
+        self.of(*claim)
+    }
+}
+
+impl<'a> Split<'a> {
+    pub(crate) fn new(shares: Shares<'a>) -> Self
+        ensures parts { result.parts ≡ parts_word shares.entry.terms }
+        ensures items { shares_of result.shares ≡ shares_of shares.entry }
+    {
+        let Terms { side, level } = shares.terms;
+        let parts = shares.terms.parts();
+        // Only of terms that somebody made up.
+        if level.denominator == 0 || parts > MOST_CLAIM {
+            return Split {
+                shares,
+                parts,
+                half: 0,
+                filled: 0,
+                most: 0,
+                level: 0,
+                left: 0,
+            };
+        }
+        let (whole, left) = at_level(side, parts, level.numerator);
+        Split {
+            shares,
+            parts,
+            half: level.denominator,
+            filled: level.numerator / level.denominator,
+            most: MOST_CLAIM,
+            level: whole,
+            left,
+        }
+    }
+
+    // The share of a claim, rounded down to whole cents, and what is then left of it.
+    fn of(&self, claim: u64) -> (u64, u64)
+        ensures whole { result.0 ≡ share_word self.now.shares.terms claim / self.now.parts }
+        ensures left { result.1 ≡ share_word self.now.shares.terms claim % self.now.parts }
+    {
+        if claim > self.most {
+            let share = share(self.shares.terms, claim);
+            return (share / self.parts, share % self.parts);
+        }
+        if claim <= self.filled {
+            return (claim / 2, self.half * (claim % 2));
+        }
+        match self.shares.terms.side {
+            Side::Gains => (self.level, self.left),
+            Side::Losses => (claim - self.level, self.left),
+        }
+    }
+}
+
+// What a claim above the level has in whole cents, or loses, and what is left of it, where n of d parts of a cent are levelled.
+fn at_level(side: Side, d: u64, n: u64) -> (u64, u64)
+    requires { 0 < d }
+    ensures whole { result.0 ≡ level_whole (gains side) d n }
+    ensures left { result.1 ≡ level_left (gains side) d n }
+{
+    let over = n % d;
+    match side {
+        Side::Gains => (n / d, over),
+        Side::Losses => (n.div_ceil(d), if over > 0 { d - over } else { 0 }),
+    }
+}
