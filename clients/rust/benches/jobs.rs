@@ -1,23 +1,26 @@
-//! What a job takes at the library and at the rival, by the same bytes: `cargo bench --bench jobs`, and `-- quick` for a
+//! What a job takes at the library and at two rivals, by the same bytes: `cargo bench --bench jobs`, and `-- quick` for a
 //! rough run.
 //!
-//! Both are measured in turns, in segments of a quarter of a millisecond or more that do the same each time, and of all
-//! segments of a job the shortest counts: what else the machine does only ever makes one longer. Before any is timed, both
-//! have answered all of it alike, byte for byte.
+//! The three are measured in turns, in segments of a quarter of a millisecond or more that do the same each time, and of all
+//! segments of a job the shortest counts: what else the machine does only ever makes one longer. Before any is timed, all
+//! three have answered all of it alike, byte for byte.
 
+mod calls;
 mod estates;
 mod library;
-mod rival;
+mod plain;
+mod tuned;
 
 use std::hint::black_box;
 use std::time::{Duration, Instant};
 
 use estates::{CENTS, KINDS, Kind, SHARES, Seed, all_come, claim, come, prove};
 use library::Library;
-use rival::Rival;
+use plain::Plain;
+use tuned::Tuned;
 
 const COUNTS: [usize; 4] = [16, 64, 256, 1024];
-/// How long a segment is to be at the side that takes longer, and how many there are of a row in a row.
+/// How long a segment is to be at the side that takes longest, and how many there are of a row in a row.
 const SEGMENT: Duration = Duration::from_micros(250);
 const BURST: usize = 8;
 /// How many claims are proved of an estate.
@@ -56,23 +59,30 @@ impl Desk for Library {
     const LEVEL: bool = cfg!(feature = "level");
 }
 
-impl Desk for Rival {
-    fn open(limit: usize) -> Self {
-        Rival::open(limit).expect("a desk")
-    }
-    fn reopen(&mut self) {
-        Rival::reopen(self);
-    }
-    #[inline(always)]
-    fn call(&mut self, call: &[u8], answer: &mut [u8]) -> i64 {
-        Rival::call(self, call, answer)
-    }
-    #[inline(always)]
-    fn level(&self, there: u64) -> (u64, u64) {
-        self.level_of(there)
-    }
-    const LEVEL: bool = true;
+macro_rules! rival {
+    ($rival:ident) => {
+        impl Desk for $rival {
+            fn open(limit: usize) -> Self {
+                $rival::open(limit).expect("a desk")
+            }
+            fn reopen(&mut self) {
+                $rival::reopen(self);
+            }
+            #[inline(always)]
+            fn call(&mut self, call: &[u8], answer: &mut [u8]) -> i64 {
+                $rival::call(self, call, answer)
+            }
+            #[inline(always)]
+            fn level(&self, there: u64) -> (u64, u64) {
+                self.level_of(there)
+            }
+            const LEVEL: bool = true;
+        }
+    };
 }
+
+rival!(Plain);
+rival!(Tuned);
 
 #[derive(Clone, Copy, PartialEq, Debug)]
 enum Job {
@@ -254,37 +264,34 @@ impl<D: Desk> Side<D> {
     }
 }
 
-/// A job at so many creditors, at both.
+/// A job at so many creditors, at all three.
 struct Row<'a> {
     job: Job,
     count: usize,
     estates: &'a [Estate],
     library: Side<Library>,
-    rival: Side<Rival>,
+    plain: Side<Plain>,
+    tuned: Side<Tuned>,
     /// How often in one segment.
     times: usize,
     rounds: usize,
 }
 
 impl<'a> Row<'a> {
-    /// As many times in one segment as take that long at the side that takes longer.
+    /// As many times in one segment as take that long at the side that takes longest.
     fn new(job: Job, count: usize, estates: &'a [Estate]) -> Self {
-        let (mut library, mut rival) = (Side::new(count, estates), Side::new(count, estates));
+        let mut library: Side<Library> = Side::new(count, estates);
+        let mut plain: Side<Plain> = Side::new(count, estates);
+        let mut tuned: Side<Tuned> = Side::new(count, estates);
         let mut times = estates.len();
         loop {
-            let slower = Side::segment(&mut library, job, estates, times)
-                .max(rival.segment(job, estates, times));
-            if slower * times as f64 >= SEGMENT.as_nanos() as f64 / 2.0 || times > 1 << 20 {
-                let times = (SEGMENT.as_nanos() as f64 / slower).ceil() as usize;
-                return Row {
-                    job,
-                    count,
-                    estates,
-                    library,
-                    rival,
-                    times,
-                    rounds: 0,
-                };
+            let slowest = library
+                .segment(job, estates, times)
+                .max(plain.segment(job, estates, times))
+                .max(tuned.segment(job, estates, times));
+            if slowest * times as f64 >= SEGMENT.as_nanos() as f64 / 2.0 || times > 1 << 20 {
+                let times = (SEGMENT.as_nanos() as f64 / slowest).ceil() as usize;
+                return Row { job, count, estates, library, plain, tuned, times, rounds: 0 };
             }
             times *= 2;
         }
@@ -299,48 +306,44 @@ impl<'a> Row<'a> {
         } = *self;
         for _ in 0..BURST {
             self.library.round(job, estates, times);
-            self.rival.round(job, estates, times);
+            self.plain.round(job, estates, times);
+            self.tuned.round(job, estates, times);
         }
         self.rounds += BURST;
     }
 }
 
-/// Both answer all of it alike, before and behind every change.
+/// All three answer all of it alike, before and behind every change.
 fn compare(count: usize, estates: &[Estate]) {
     for (number, estate) in estates.iter().enumerate() {
-        let (mut library, mut rival) =
-            (<Library as Desk>::open(count), <Rival as Desk>::open(count));
-        let (mut one, mut other) = (vec![0xa5; 24 + 8 * count], vec![0xa5; 24 + 8 * count]);
-        let mut both = |call: &[u8]| {
-            let answered = library.call(call, &mut one);
-            assert_eq!(
-                answered,
-                rival.call(call, &mut other),
-                "{call:?}, {count} creditors, estate {number}"
-            );
-            assert!(
-                answered > 0,
-                "{answered}: {call:?}, {count} creditors, estate {number}"
-            );
-            assert!(one == other, "{call:?}, {count} creditors, estate {number}");
+        let mut library = <Library as Desk>::open(count);
+        let mut plain = <Plain as Desk>::open(count);
+        let mut tuned = <Tuned as Desk>::open(count);
+        let mut answers = [0; 3].map(|_| vec![0xa5; 24 + 8 * count]);
+        let mut alike = |call: &[u8]| {
+            let [first, second, third] = &mut answers;
+            let answered = library.call(call, first);
+            assert!(answered > 0, "{answered}: {call:?}, {count} creditors, estate {number}");
+            assert_eq!(answered, plain.call(call, second), "plain: {call:?}, {count} creditors, estate {number}");
+            assert_eq!(answered, tuned.call(call, third), "tuned: {call:?}, {count} creditors, estate {number}");
+            assert!(first == second, "plain: {call:?}, {count} creditors, estate {number}");
+            assert!(first == third, "tuned: {call:?}, {count} creditors, estate {number}");
         };
         let last = come(1);
         for calls in [&estate.claims, &estate.comes, &estate.proves, &vec![last]] {
             for (place, call) in calls.iter().enumerate() {
-                both(call);
+                alike(call);
                 if place % 16 == 0 || place + 1 == calls.len() {
-                    both(SHARES);
-                    both(CENTS);
+                    alike(SHARES);
+                    alike(CENTS);
                 }
             }
         }
         if Library::LEVEL {
             for &there in &estate.theres {
-                assert_eq!(
-                    Desk::level(&library, there),
-                    Desk::level(&rival, there),
-                    "{there}, estate {number}"
-                );
+                let level = library.level(there);
+                assert_eq!(level, plain.level(there), "plain: {there}, {count} creditors, estate {number}");
+                assert_eq!(level, tuned.level(there), "tuned: {there}, {count} creditors, estate {number}");
             }
         }
     }
@@ -375,7 +378,7 @@ fn main() {
         .filter(|job| only.is_empty() || only.contains(job))
         .filter(|&job| job != Job::Level || Library::LEVEL)
         .collect();
-    let time = Duration::from_secs_f64(if quick { 8.0 } else { 75.0 });
+    let time = Duration::from_secs_f64(if quick { 7.0 } else { 85.0 });
 
     let unknown = || "?".to_string();
     println!(
@@ -384,8 +387,8 @@ fn main() {
         command("rustc", &["--version"]).unwrap_or_else(unknown),
         command("date", &["-u", "+%Y-%m-%d"]).unwrap_or_else(unknown)
     );
-    println!("| Job | Creditors | Library, ns | Rival, ns | Library / rival |");
-    println!("|---|---|---|---|---|");
+    println!("| Job | Creditors | Library, ns | Plain, ns | Tuned, ns | Library / plain | Library / tuned |");
+    println!("|---|---|---|---|---|---|---|");
 
     // All estates are compared before anything is timed.
     let made: Vec<(usize, Vec<Estate>)> = COUNTS.map(|count| (count, estates_of(count))).into();
@@ -406,20 +409,13 @@ fn main() {
             row.burst();
         }
     }
-    for Row {
-        job,
-        count,
-        library,
-        rival,
-        ..
-    } in &rows
-    {
+    for Row { job, count, library, plain, tuned, .. } in &rows {
         let name = format!("{job:?}").to_lowercase();
+        let [library, plain, tuned] = [library.least, plain.least, tuned.least];
         println!(
-            "| {name} | {count} | {:.1} | {:.1} | {:.2} |",
-            library.least,
-            rival.least,
-            library.least / rival.least
+            "| {name} | {count} | {library:.1} | {plain:.1} | {tuned:.1} | {:.2} | {:.2} |",
+            library / plain,
+            library / tuned
         );
     }
     println!("\nThe shortest of {} segments of each.", rows[0].rounds);

@@ -1,5 +1,7 @@
-//! The library and the rival answer alike, byte for byte: estates of seeds, with calls that are refused among them.
+//! The library and both rivals answer alike, byte for byte: estates of seeds, with calls that are refused among them.
 
+#[path = "../benches/calls/mod.rs"]
+mod calls;
 #[allow(dead_code)]
 #[path = "../benches/estates/mod.rs"]
 mod estates;
@@ -7,12 +9,17 @@ mod estates;
 #[path = "../benches/library/mod.rs"]
 mod library;
 #[allow(dead_code)]
-#[path = "../benches/rival/mod.rs"]
-mod rival;
+#[path = "../benches/plain/mod.rs"]
+mod plain;
+#[allow(dead_code)]
+#[path = "../benches/tuned/mod.rs"]
+mod tuned;
 
+use calls::MOST_CREDITORS;
 use estates::{CENTS, KINDS, Kind, SHARES, Seed, claim, come, prove};
 use library::Library;
-use rival::{MOST_CREDITORS, Rival};
+use plain::Plain;
+use tuned::Tuned;
 
 /// A call, or bytes that are none.
 fn call_of(kind: Kind, limit: usize, seed: &mut Seed) -> Vec<u8> {
@@ -50,25 +57,18 @@ fn equal_answers() {
             1..5 => seed.below(200) as usize,
             _ => seed.below(24) as usize,
         };
-        let (mut library, mut rival) = (
-            Library::open(limit).expect("a desk"),
-            Rival::open(limit).expect("a desk"),
-        );
-        let (mut one, mut other) = (vec![0xa5; 8 * limit + 40], vec![0xa5; 8 * limit + 40]);
+        let mut library = Library::open(limit).expect("a desk");
+        let mut plain = Plain::open(limit).expect("a desk");
+        let mut tuned = Tuned::open(limit).expect("a desk");
+        let [mut first, mut second, mut third] = [0; 3].map(|_| vec![0xa5; 8 * limit + 40]);
         for _ in 0..4 * limit + 40 {
             let call = call_of(kind, limit, &mut seed);
-            let lent = if seed.below(64) == 0 {
-                seed.below(one.len() as u64) as usize
-            } else {
-                one.len()
-            };
-            let answered = library.call(&call, &mut one[..lent]);
-            assert_eq!(
-                answered,
-                rival.call(&call, &mut other[..lent]),
-                "estate {number}: {call:?}"
-            );
-            assert_eq!(one, other, "estate {number}: {call:?}");
+            let lent = if seed.below(64) == 0 { seed.below(first.len() as u64) as usize } else { first.len() };
+            let answered = library.call(&call, &mut first[..lent]);
+            assert_eq!(answered, plain.call(&call, &mut second[..lent]), "plain, estate {number}: {call:?}");
+            assert_eq!(answered, tuned.call(&call, &mut third[..lent]), "tuned, estate {number}: {call:?}");
+            assert_eq!(first, second, "plain, estate {number}: {call:?}");
+            assert_eq!(first, third, "tuned, estate {number}: {call:?}");
             if answered < 0 {
                 refusals[(-answered >> 32) as usize] += 1;
             }
@@ -83,7 +83,27 @@ fn equal_answers() {
 #[test]
 fn too_many_creditors() {
     for limit in [MOST_CREDITORS + 1, usize::MAX] {
-        assert_eq!(Library::open(limit).err(), Rival::open(limit).err());
-        assert_eq!(Rival::open(limit).err(), Some(-(3 << 32)));
+        let refused = Some(-(3 << 32));
+        assert_eq!(Library::open(limit).err(), refused);
+        assert_eq!(Plain::open(limit).err(), refused);
+        assert_eq!(Tuned::open(limit).err(), refused);
     }
+}
+
+#[test]
+fn most_there() {
+    let mut library = Library::open(0).expect("a desk");
+    let mut plain = Plain::open(0).expect("a desk");
+    let mut tuned = Tuned::open(0).expect("a desk");
+    let mut answer = [0; 24];
+    let mut all_answer = |cents: u64, answered: i64| {
+        assert_eq!(library.call(&come(cents), &mut answer), answered);
+        assert_eq!(plain.call(&come(cents), &mut answer), answered);
+        assert_eq!(tuned.call(&come(cents), &mut answer), answered);
+    };
+    for _ in 0..1_000 {
+        all_answer(1_000_000_000, 9);
+    }
+    all_answer(1, -(5 << 32));
+    all_answer(0, 9);
 }

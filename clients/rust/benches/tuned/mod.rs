@@ -1,28 +1,10 @@
-//! A rival: the same desk, written for speed and proved by nobody. It shares no code with the library.
+//! The tuned rival: the same desk, written for speed with special cases made by hand, and proved by nobody. It shares no
+//! code with the library.
 //!
-//! Claims are at most 10^9, so they are kept in 32 bits; sums over them need 64.
+//! Claims are at most 10^9, so they are kept in 32 bits; sums over them need 64. Whole cents take no division for each
+//! creditor: what a share lacks of a whole cent is nothing, half a cent, or the same as at all who are level.
 
-pub const MOST_CREDITORS: usize = 1024;
-const MOST_CENTS: u64 = 1_000_000_000;
-const MOST_THERE: u64 = 1_000_000_000_000;
-
-/// Why a call is turned away: the number of the refusal, and a place.
-struct Refusal(u32, usize);
-
-impl Refusal {
-    fn signed(self) -> i64 {
-        let place = u32::try_from(self.1).unwrap_or(u32::MAX);
-        -(i64::from(self.0) << 32 | i64::from(place))
-    }
-}
-
-enum Call {
-    Claim(u32),
-    Prove(u64, u32),
-    Come(u32),
-    Shares,
-    Cents,
-}
+use crate::calls::{Call, MOST_CREDITORS, MOST_THERE, Refusal, decoded, number};
 
 /// What all shares depend on besides the claims.
 struct Terms {
@@ -34,7 +16,7 @@ struct Terms {
     from: u32,
 }
 
-pub struct Rival {
+pub struct Tuned {
     limit: usize,
     there: u64,
     /// The claims as they came.
@@ -45,21 +27,15 @@ pub struct Rival {
     sums: Vec<u64>,
 }
 
-impl Rival {
+impl Tuned {
     /// A desk without claims, in which nothing is there; or the refusal.
-    pub fn open(limit: usize) -> Result<Rival, i64> {
+    pub fn open(limit: usize) -> Result<Tuned, i64> {
         if limit > MOST_CREDITORS {
             return Err(Refusal(3, 0).signed());
         }
         let mut sums = Vec::with_capacity(limit + 1);
         sums.push(0);
-        Ok(Rival {
-            limit,
-            there: 0,
-            claims: Vec::with_capacity(limit),
-            sorted: Vec::with_capacity(limit),
-            sums,
-        })
+        Ok(Tuned { limit, there: 0, claims: Vec::with_capacity(limit), sorted: Vec::with_capacity(limit), sums })
     }
 
     /// As it was when it was opened.
@@ -90,19 +66,17 @@ impl Rival {
                 if place >= self.limit {
                     return Err(Refusal(5, 0));
                 }
-                self.claim(cents);
+                self.claim(cents as u32);
                 Ok(number(place as u64, answer))
             }
             Call::Prove(place, cents) => {
-                let claim = usize::try_from(place)
-                    .ok()
-                    .and_then(|place| self.claims.get_mut(place));
-                let old = std::mem::replace(claim.ok_or(Refusal(4, 0))?, cents);
-                self.moved(old, cents);
+                let claim = usize::try_from(place).ok().and_then(|place| self.claims.get_mut(place));
+                let old = std::mem::replace(claim.ok_or(Refusal(4, 0))?, cents as u32);
+                self.moved(old, cents as u32);
                 Ok(number(place, answer))
             }
             Call::Come(cents) => {
-                let there = self.there + u64::from(cents);
+                let there = self.there + cents;
                 if there > MOST_THERE {
                     return Err(Refusal(5, 0));
                 }
@@ -316,51 +290,5 @@ impl Rival {
 fn list(claims: &[u32], rows: &mut [u8], of: impl Fn(u32) -> u64) {
     for (row, &claim) in rows.as_chunks_mut().0.iter_mut().zip(claims) {
         *row = of(claim).to_le_bytes();
-    }
-}
-
-fn number(number: u64, answer: &mut [u8]) -> usize {
-    answer[0] = 1;
-    answer[1..9].copy_from_slice(&number.to_le_bytes());
-    9
-}
-
-fn decoded(call: &[u8]) -> Result<Call, Refusal> {
-    let Some((&kind, rest)) = call.split_first() else {
-        return Err(Refusal(1, 0));
-    };
-    match kind {
-        0 => Ok(Call::Claim(cents(alone(rest)?, 0)?)),
-        1 => {
-            let (place, rest) = rest.split_first_chunk().ok_or(Refusal(1, call.len()))?;
-            let new = fitting(rest, 9)?;
-            Ok(Call::Prove(u64::from_le_bytes(*place), cents(new, 1)?))
-        }
-        2 => Ok(Call::Come(cents(alone(rest)?, 0)?)),
-        3 | 4 if !rest.is_empty() => Err(Refusal(1, 1)),
-        3 => Ok(Call::Shares),
-        4 => Ok(Call::Cents),
-        _ => Err(Refusal(1, 0)),
-    }
-}
-
-/// The only number of a call.
-fn alone(rest: &[u8]) -> Result<u64, Refusal> {
-    fitting(rest, 1)
-}
-
-/// The last number of a call, which begins at a place.
-fn fitting(rest: &[u8], start: usize) -> Result<u64, Refusal> {
-    match rest.try_into() {
-        Ok(bytes) => Ok(u64::from_le_bytes(bytes)),
-        Err(_) => Err(Refusal(1, start + rest.len().min(8))),
-    }
-}
-
-fn cents(number: u64, place: usize) -> Result<u32, Refusal> {
-    if number > MOST_CENTS {
-        Err(Refusal(2, place))
-    } else {
-        Ok(number as u32)
     }
 }
