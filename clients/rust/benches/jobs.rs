@@ -291,7 +291,16 @@ impl<'a> Row<'a> {
                 .max(tuned.segment(job, estates, times));
             if slowest * times as f64 >= SEGMENT.as_nanos() as f64 / 2.0 || times > 1 << 20 {
                 let times = (SEGMENT.as_nanos() as f64 / slowest).ceil() as usize;
-                return Row { job, count, estates, library, plain, tuned, times, rounds: 0 };
+                return Row {
+                    job,
+                    count,
+                    estates,
+                    library,
+                    plain,
+                    tuned,
+                    times,
+                    rounds: 0,
+                };
             }
             times *= 2;
         }
@@ -323,11 +332,28 @@ fn compare(count: usize, estates: &[Estate]) {
         let mut alike = |call: &[u8]| {
             let [first, second, third] = &mut answers;
             let answered = library.call(call, first);
-            assert!(answered > 0, "{answered}: {call:?}, {count} creditors, estate {number}");
-            assert_eq!(answered, plain.call(call, second), "plain: {call:?}, {count} creditors, estate {number}");
-            assert_eq!(answered, tuned.call(call, third), "tuned: {call:?}, {count} creditors, estate {number}");
-            assert!(first == second, "plain: {call:?}, {count} creditors, estate {number}");
-            assert!(first == third, "tuned: {call:?}, {count} creditors, estate {number}");
+            assert!(
+                answered > 0,
+                "{answered}: {call:?}, {count} creditors, estate {number}"
+            );
+            assert_eq!(
+                answered,
+                plain.call(call, second),
+                "plain: {call:?}, {count} creditors, estate {number}"
+            );
+            assert_eq!(
+                answered,
+                tuned.call(call, third),
+                "tuned: {call:?}, {count} creditors, estate {number}"
+            );
+            assert!(
+                first == second,
+                "plain: {call:?}, {count} creditors, estate {number}"
+            );
+            assert!(
+                first == third,
+                "tuned: {call:?}, {count} creditors, estate {number}"
+            );
         };
         let last = come(1);
         for calls in [&estate.claims, &estate.comes, &estate.proves, &vec![last]] {
@@ -342,8 +368,16 @@ fn compare(count: usize, estates: &[Estate]) {
         if Library::LEVEL {
             for &there in &estate.theres {
                 let level = library.level(there);
-                assert_eq!(level, plain.level(there), "plain: {there}, {count} creditors, estate {number}");
-                assert_eq!(level, tuned.level(there), "tuned: {there}, {count} creditors, estate {number}");
+                assert_eq!(
+                    level,
+                    plain.level(there),
+                    "plain: {there}, {count} creditors, estate {number}"
+                );
+                assert_eq!(
+                    level,
+                    tuned.level(there),
+                    "tuned: {there}, {count} creditors, estate {number}"
+                );
             }
         }
     }
@@ -387,7 +421,9 @@ fn main() {
         command("rustc", &["--version"]).unwrap_or_else(unknown),
         command("date", &["-u", "+%Y-%m-%d"]).unwrap_or_else(unknown)
     );
-    println!("| Job | Creditors | Library, ns | Plain, ns | Tuned, ns | Library / plain | Library / tuned |");
+    println!(
+        "| Job | Creditors | Library, ns | Plain, ns | Tuned, ns | Library / plain | Library / tuned |"
+    );
     println!("|---|---|---|---|---|---|---|");
 
     // All estates are compared before anything is timed.
@@ -409,7 +445,15 @@ fn main() {
             row.burst();
         }
     }
-    for Row { job, count, library, plain, tuned, .. } in &rows {
+    for Row {
+        job,
+        count,
+        library,
+        plain,
+        tuned,
+        ..
+    } in &rows
+    {
         let name = format!("{job:?}").to_lowercase();
         let [library, plain, tuned] = [library.least, plain.least, tuned.least];
         println!(

@@ -63,10 +63,22 @@ fn equal_answers() {
         let [mut first, mut second, mut third] = [0; 3].map(|_| vec![0xa5; 8 * limit + 40]);
         for _ in 0..4 * limit + 40 {
             let call = call_of(kind, limit, &mut seed);
-            let lent = if seed.below(64) == 0 { seed.below(first.len() as u64) as usize } else { first.len() };
+            let lent = if seed.below(64) == 0 {
+                seed.below(first.len() as u64) as usize
+            } else {
+                first.len()
+            };
             let answered = library.call(&call, &mut first[..lent]);
-            assert_eq!(answered, plain.call(&call, &mut second[..lent]), "plain, estate {number}: {call:?}");
-            assert_eq!(answered, tuned.call(&call, &mut third[..lent]), "tuned, estate {number}: {call:?}");
+            assert_eq!(
+                answered,
+                plain.call(&call, &mut second[..lent]),
+                "plain, estate {number}: {call:?}"
+            );
+            assert_eq!(
+                answered,
+                tuned.call(&call, &mut third[..lent]),
+                "tuned, estate {number}: {call:?}"
+            );
             assert_eq!(first, second, "plain, estate {number}: {call:?}");
             assert_eq!(first, third, "tuned, estate {number}: {call:?}");
             if answered < 0 {

@@ -52,7 +52,11 @@ fn last(rest: &[u8], start: usize) -> Result<u64, Refusal> {
 }
 
 fn cents(number: u64, place: usize) -> Result<u64, Refusal> {
-    if number > MOST_CENTS { Err(Refusal(2, place)) } else { Ok(number) }
+    if number > MOST_CENTS {
+        Err(Refusal(2, place))
+    } else {
+        Ok(number)
+    }
 }
 
 /// Answers a number: how long the answer is.

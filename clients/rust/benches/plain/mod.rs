@@ -40,7 +40,11 @@ impl Terms {
     /// What a claim gets, in these parts.
     fn share(&self, claim: u64) -> u64 {
         let levelled = (self.among * claim).min(self.spread);
-        if self.losses { 2 * self.among * claim - levelled } else { levelled }
+        if self.losses {
+            2 * self.among * claim - levelled
+        } else {
+            levelled
+        }
     }
 }
 
@@ -95,7 +99,9 @@ impl Plain {
                 Ok(number(place as u64, answer))
             }
             Call::Prove(place, cents) => {
-                let claim = usize::try_from(place).ok().and_then(|place| self.claims.get_mut(place));
+                let claim = usize::try_from(place)
+                    .ok()
+                    .and_then(|place| self.claims.get_mut(place));
                 let old = std::mem::replace(claim.ok_or(Refusal(4, 0))?, cents);
                 self.replace(old, cents);
                 Ok(number(place, answer))
@@ -162,7 +168,12 @@ impl Plain {
             }
         }
         let losses = divided > all - divided;
-        Terms { divided, losses, spread: target - self.sums[low], among: (count - low) as u64 }
+        Terms {
+            divided,
+            losses,
+            spread: target - self.sums[low],
+            among: (count - low) as u64,
+        }
     }
 
     fn shares(&self, answer: &mut [u8]) -> usize {
@@ -199,7 +210,8 @@ impl Plain {
             let left = left as usize;
             self.places.clear();
             self.places.extend(0..self.claims.len());
-            self.places.select_nth_unstable_by_key(left - 1, |&place| (Reverse(self.lacks[place]), place));
+            self.places
+                .select_nth_unstable_by_key(left - 1, |&place| (Reverse(self.lacks[place]), place));
             for &place in &self.places[..left] {
                 rows[place] = (u64::from_le_bytes(rows[place]) + 1).to_le_bytes();
             }

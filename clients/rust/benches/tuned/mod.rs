@@ -35,7 +35,13 @@ impl Tuned {
         }
         let mut sums = Vec::with_capacity(limit + 1);
         sums.push(0);
-        Ok(Tuned { limit, there: 0, claims: Vec::with_capacity(limit), sorted: Vec::with_capacity(limit), sums })
+        Ok(Tuned {
+            limit,
+            there: 0,
+            claims: Vec::with_capacity(limit),
+            sorted: Vec::with_capacity(limit),
+            sums,
+        })
     }
 
     /// As it was when it was opened.
@@ -70,7 +76,9 @@ impl Tuned {
                 Ok(number(place as u64, answer))
             }
             Call::Prove(place, cents) => {
-                let claim = usize::try_from(place).ok().and_then(|place| self.claims.get_mut(place));
+                let claim = usize::try_from(place)
+                    .ok()
+                    .and_then(|place| self.claims.get_mut(place));
                 let old = std::mem::replace(claim.ok_or(Refusal(4, 0))?, cents as u32);
                 self.moved(old, cents as u32);
                 Ok(number(place, answer))
