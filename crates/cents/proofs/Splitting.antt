@@ -1,5 +1,5 @@
 -- The shares of claims on the terms of a division, without a division for each. Assumes nothing.
-use Rattle.std.proofs.Common.{◌≡◌, ℕ, ◌+◌, ◌-◌, ◌*◌, ◌/◌, ◌%◌, ◌<◌, ◌≤◌, zero, suc, Bool, true, false, refl, sym, ap, ◌∙◌, arith}
+use Rattle.std.proofs.Common.{◌≡◌, ℕ, ◌+◌, ◌-◌, ◌*◌, ◌/◌, ◌%◌, ◌<◌, ◌≤◌, zero, suc, Bool, true, false, List, [], ◌∷◌, get_or, refl, sym, ap, ◌∙◌, arith}
 use Rattle.std.proofs.Math.Nat.{add-mul-div_left, add-mul-mod_self_left, div-eq_of_lt, mod-eq_of_lt, mod_self, mul-le-mul_left, mul-le-mul, mul-div-le, lt-mul-div-succ, div-lt_iff_lt-mul, le-mul_of_pos_right}
 use Rattle.estate.specs.Closed.{share}
 use Rattle.std.specs.Int.{div_ceil}
@@ -84,3 +84,15 @@ module _ (m n d : ℕ) (some : 0 < m) (double : d ≡ 2 * m) (word : n ≤ 18446
     pub left : (b : Bool) → got b c % d ≡ level_left b d n
     left true = ap (λ k. k % d) gained
     left false = level_lost.1
+
+-- what is left of a claim, looked up: of an even or odd one up to the level, which lacks nothing or half, and above it
+module _ (half over : ℕ) where
+  pub looked_up : (odd : ℕ) → odd < 2 → get_or (0 ∷ half ∷ over ∷ over ∷ []) odd 0 ≡ half * odd
+  looked_up zero h = omega arith
+  looked_up (suc zero) h = omega arith
+  looked_up (suc (suc k)) h = absurd (omega (arith, h))
+
+  pub looked_up_above : (odd : ℕ) → odd < 2 → get_or (0 ∷ half ∷ over ∷ over ∷ []) (2 + odd) 0 ≡ over
+  looked_up_above zero h = refl
+  looked_up_above (suc zero) h = refl
+  looked_up_above (suc (suc k)) h = absurd (omega (arith, h))

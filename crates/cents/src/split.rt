@@ -1,5 +1,5 @@
 // The shares of claims on the terms of a division, as whole cents without a division for each.
-ghost use Rattle.std.specs.Prelude.{◌≡◌, ℕ, true, false, ◌+◌, ◌*◌, ◌/◌, ◌%◌, ◌<◌, ◌≤◌};
+ghost use Rattle.std.specs.Prelude.{◌≡◌, ℕ, true, false, slice_index, ◌+◌, ◌*◌, ◌/◌, ◌%◌, ◌<◌, ◌≤◌};
 ghost use Rattle.level.specs.Sides.{gains};
 ghost use Rattle.cents.specs.Rounding.{level_whole, level_left};
 ghost use Rattle.shares.specs.Shares.{parts_word, share_word, shares_of};
@@ -19,19 +19,19 @@ const MOST_CLAIM: u64 = 0xffff_ffff;
 pub struct Split<'a> {
     pub(crate) shares: Shares<'a>,
     pub(crate) parts: u64,
-    half: u64,
     filled: u64,
     most: u64,
     level: u64,
-    left: u64,
+    // of even and odd claims up to `filled`, and of those above
+    left: [u64; 4],
     ghost parted: { 0 < parts },
     ghost filled_whole: { (c : ℕ) → c ≤ filled → share_word shares.terms c / parts ≡ c / 2 },
-    ghost filled_left: { (c : ℕ) → c ≤ filled → share_word shares.terms c % parts ≡ half * (c % 2) },
+    ghost filled_left: { (c : ℕ) → c ≤ filled → share_word shares.terms c % parts ≡ slice_index left (c % 2) },
     ghost gained: { gains shares.terms.side ≡ true → (c : ℕ) → filled < c → c ≤ most
         → share_word shares.terms c / parts ≡ level },
     ghost lost: { gains shares.terms.side ≡ false → (c : ℕ) → filled < c → c ≤ most
         → share_word shares.terms c / parts + level ≡ c },
-    ghost level_left: { (c : ℕ) → filled < c → c ≤ most → share_word shares.terms c % parts ≡ left },
+    ghost level_left: { (c : ℕ) → filled < c → c ≤ most → share_word shares.terms c % parts ≡ slice_index left (2 + c % 2) },
 }
 
 impl Parted for Split<'_> {
@@ -68,22 +68,20 @@ impl<'a> Split<'a> {
             return Split {
                 shares,
                 parts,
-                half: 0,
                 filled: 0,
                 most: 0,
                 level: 0,
-                left: 0,
+                left: [0; 4],
             };
         }
         let (whole, left) = at_level(side, parts, level.numerator);
         Split {
             shares,
             parts,
-            half: level.denominator,
             filled: level.numerator / level.denominator,
             most: MOST_CLAIM,
             level: whole,
-            left,
+            left: [0, level.denominator, left, left],
         }
     }
 
@@ -96,13 +94,15 @@ impl<'a> Split<'a> {
             let share = share(self.shares.terms, claim);
             return (share / self.parts, share % self.parts);
         }
-        if claim <= self.filled {
-            return (claim / 2, self.half * (claim % 2));
-        }
-        match self.shares.terms.side {
-            Side::Gains => (self.level, self.left),
-            Side::Losses => (claim - self.level, self.left),
-        }
+        // By no branch, which no processor can foretell: what is left is looked up.
+        let above = claim > self.filled;
+        let level = match self.shares.terms.side {
+            Side::Gains => self.level,
+            Side::Losses => claim.saturating_sub(self.level),
+        };
+        let whole = if above { level } else { claim / 2 };
+        let left = self.left[(2 * u64::from(above) + claim % 2) as usize];
+        (whole, left)
     }
 }
 
