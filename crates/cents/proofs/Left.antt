@@ -1,6 +1,6 @@
 -- How many cents are left. Assumes nothing.
-use Rattle.std.proofs.Common.{◌≡◌, ◌≢◌, ℕ, ◌+◌, ◌-◌, ◌*◌, ◌/◌, ◌%◌, ◌<◌, List, [], ◌∷◌, length, get_or, take, sum, refl, sym, ap, ◌∙◌, arith}
-use Rattle.std.proofs.Math.Nat.{add-mul-mod_self_right, add-mul-div_right}
+use Rattle.std.proofs.Common.{◌≡◌, ◌≢◌, ℕ, ◌+◌, ◌-◌, ◌*◌, ◌/◌, ◌%◌, ◌<◌, ◌≤◌, List, [], ◌∷◌, length, get_or, take, sum, refl, sym, ap, ◌∙◌, arith}
+use Rattle.std.proofs.Math.Nat.{add-mul-mod_self_right, add-mul-div_right, div-le_of_le-mul}
 use Rattle.std.proofs.lemmas.List.Sums.{sum_by-cons, sum_by_more}
 use Rattle.estate.specs.Cents.{downs, give_left, in_cents}
 use Rattle.cents.specs.Rounding.{lacking}
@@ -19,6 +19,17 @@ module _ (d : ℕ) where
   lacking_whole : (xs : List ℕ) → 0 < d → lacking d xs / d ≡ sum xs / d - sum (downs d xs)
   lacking_whole xs h =
       omega (arith, ap (λ n. n / d) (lacking_all xs), add-mul-div_right (lacking d xs) (sum (downs d xs)) h)
+
+  lacking_few : (xs : List ℕ) → 0 < d → lacking d xs ≤ length xs * d
+  unfolding lacking
+  lacking_few [] h = omega arith
+  lacking_few (x ∷ xs) h = omega (arith, sum_by-cons (λ y. y % d) x xs, lacking_few xs h, h)
+
+  -- fewer cents are left than there are shares
+  pub few_left : (xs : List ℕ) → 0 < d → lacking d xs / d ≤ length xs
+  few_left xs h =
+      let few : lacking d xs ≤ d * length xs = omega (arith, lacking_few xs h) in
+      div-le_of_le-mul d few
 
   pub lacking_start : 0 ≡ lacking d []
   unfolding lacking

@@ -1,5 +1,5 @@
 -- Shares rounded to whole cents, and what is then lacking. Assumes nothing.
-use Rattle.std.specs.Prelude.{ℕ, suc, ◌-◌, ◌/◌, ◌%◌, Bool, true, false, List, [], ◌∷◌, if◌then◌else◌, slice_index}
+use Rattle.std.specs.Prelude.{◌≡◌, ℕ, suc, ◌-◌, ◌/◌, ◌%◌, ◌<◌, Bool, true, false, List, [], ◌∷◌, if◌then◌else◌, slice_index}
 use Rattle.std.specs.Int.{div_ceil}
 use Rattle.std.specs.List.{sum_by}
 use Rattle.estate.specs.Cents.{give_left}
@@ -50,3 +50,8 @@ module _ {P : Type 0} (parts : P → ℕ) (items : P → List ℕ) where
 
   abbrev pub given_of : P → ℕ → Marks → List ℕ
   given_of p n more = given (parts p) (items p) n (is_marked more)
+
+  -- whoever is marked lacks more than n when its share is rounded down
+  abbrev pub EachLacks : P → Marks → ℕ → Type 0
+  EachLacks p more n =
+      (i : ℕ) → is_marked more i ≡ true → n < slice_index (items p) i % parts p

@@ -1,8 +1,8 @@
 // Shares rounded to whole cents, and the cents that are then left.
-ghost use Rattle.std.specs.Prelude.{◌≡◌, ℕ, ◌%◌, ◌<◌, ◌≤◌, length, slice_index};
+ghost use Rattle.std.specs.Prelude.{◌≡◌, ℕ, ◌/◌, ◌%◌, ◌^◌, ◌<◌, ◌≤◌, length, slice_index};
 ghost use Rattle.estate.specs.Cents.{downs, give_left};
 ghost use Rattle.estate.specs.Limits.{most_creditors};
-ghost use Rattle.cents.specs.Rounding.{cents_with, given_of, lack_of, lacking_of};
+ghost use Rattle.cents.specs.Rounding.{cents_with, given_of, lack_of, lacking_of, EachLacks};
 
 use crate::bits::Marks;
 use crate::parted::Parted;
@@ -23,10 +23,26 @@ pub(crate) fn lacking<P: Parted>(shares: &P) -> (u128, u64)
     (lacking, most)
 }
 
+// How many cents these parts are, and what is over. A word is divided faster than two.
+pub(crate) fn divided(parts: u128, cent: u64) -> (u64, u64)
+    requires some { 0 < cent }
+    requires fits { parts / cent < 2 ^ 64 }
+    ensures whole { result.0 ≡ parts / cent }
+    ensures over { result.1 ≡ parts % cent }
+{
+    match u64::try_from(parts) {
+        Ok(word) => (word / cent, word % cent),
+        Err(_) => (
+            (parts / u128::from(cent)) as u64,
+            (parts % u128::from(cent)) as u64,
+        ),
+    }
+}
+
 // Gives cents, one after the other, each to who at that moment lacks most of its share, of equals the first; who has one
 // then. Nobody lacks more than `most`.
 #[tactic(auto, using(crate::proofs::Giving::none_given, crate::proofs::Giving::nobody_lacks, crate::proofs::Giving::all_given, crate::proofs::Amounts::lack_most))]
-pub(crate) fn give<P: Parted>(shares: &P, cents: u128, most: u64) -> Marks
+pub(crate) fn give<P: Parted>(shares: &P, cents: u64, most: u64) -> Marks
     requires parted { 0 < P.parts shares.now }
     requires few { length (P.items shares.now) ≤ most_creditors }
     requires most { (i : ℕ) → slice_index (P.items shares.now) i % P.parts shares.now ≤ most }
@@ -44,36 +60,30 @@ pub(crate) fn give<P: Parted>(shares: &P, cents: u128, most: u64) -> Marks
     more
 }
 
-// What one lacks of its share: nothing, if it has one of the cents that were left.
-#[tactic(auto, unfolding(crate::specs::Rounding::lack))]
-fn lack<P: Parted>(shares: &P, more: &Marks, i: usize) -> u64
-    ensures { result ≡ lack_of P.parts P.items shares.now more.now i }
-{
-    let (_, left) = shares.at(i);
-    if more.has(i) { 0 } else { left }
-}
-
 // Gives a cent to each who lacks so much, which is the most that anybody lacks, while cents are left; how many are left
-// then, and the most that anybody lacks then.
+// then, and the most that anybody lacks then. Who has one already lacked more.
 #[tactic(auto, using(crate::proofs::Serving::give_to))]
-fn give_to<P: Parted>(shares: &P, more: &mut Marks, most: u64, cents: u128) -> (u128, u64)
+fn give_to<P: Parted>(shares: &P, more: &mut Marks, most: u64, cents: u64) -> (u64, u64)
     requires few { length (P.items shares.now) ≤ most_creditors }
     requires some { 0 < most }
     requires most { (i : ℕ) → lack_of P.parts P.items shares.now more.old i ≤ most }
+    requires had { EachLacks P.parts P.items shares.now more.old most }
     ensures given { given_of P.parts P.items shares.now result.0 more.new
         ≡ given_of P.parts P.items shares.now cents more.old }
-    ensures served { 0 < result.0 → (i : ℕ) → lack_of P.parts P.items shares.now more.new i ≤ result.1 }
+    ensures served { 0 < result.0
+        → (i : ℕ) → lack_of P.parts P.items shares.now more.new i ≤ result.1 }
     ensures fewer { result.1 < most }
+    ensures had { EachLacks P.parts P.items shares.now more.new result.1 }
 {
     let mut left = cents;
     let mut next = 0;
     for i in 0..shares.count() {
-        let lacked = lack(shares, more, i);
+        let (_, rest) = shares.at(i);
         // Not by branches, which no processor can foretell.
-        let served = (lacked == most) & (left > 0);
+        let served = (rest == most) & (left > 0);
         more.mark(i, served);
-        left -= u128::from(served);
-        let other = if lacked < most { lacked } else { 0 };
+        left -= u64::from(served);
+        let other = if rest < most { rest } else { 0 };
         next = next.max(other);
     }
     (left, next)

@@ -6,7 +6,7 @@ ghost use Rattle.wire.specs.Written.{Written};
 
 use crate::bits::Marks;
 use crate::parted::{Handed, Parted};
-use crate::rounding::{give, lacking};
+use crate::rounding::{divided, give, lacking};
 use crate::split::Split;
 use estate::MOST_CREDITORS;
 use shares::Shares;
@@ -96,11 +96,11 @@ impl<P: Parted + Drop> Cents<P> {
             return Err(CentsError::TooMany);
         }
         let (lacking, most) = lacking(&shares);
-        let parts = u128::from(shares.parts());
-        if lacking % parts != 0 {
+        let (cents, over) = divided(lacking, shares.parts());
+        if over != 0 {
             return Err(CentsError::NotWhole);
         }
-        let more = give(&shares, lacking / parts, most);
+        let more = give(&shares, cents, most);
         Ok(Cents { shares, more })
     }
 }
