@@ -1,5 +1,5 @@
 -- The loops that give cents. Assumes nothing.
-use Rattle.std.proofs.Common.{◌≡◌, ◌≢◌, ℕ, ◌+◌, ◌-◌, ◌%◌, ◌<◌, ◌≤◌, List, length, Bool, true, false, ◌&&◌, ◌||◌, cond, nat_eq, nat_lt, get_or, refl, sym, ap, ◌∙◌, below_more, arith}
+use Rattle.std.proofs.Common.{◌≡◌, ◌≢◌, ℕ, ◌+◌, ◌-◌, ◌%◌, ◌<◌, ◌≤◌, List, length, Bool, true, false, ◌||◌, cond, nat_eq, get_or, refl, sym, ap, ◌∙◌, below_more, arith}
 use mir.Val.{bool_byte}
 use Rattle.cents.specs.declared.bits.Marks.{Marks}
 use Rattle.cents.specs.Marks.{is_marked}
@@ -55,32 +55,31 @@ module _ (d : ℕ) (xs : List ℕ) where
     serving_none some all had =
         record { alike = refl; all = all; before = λ left j l. absurd (omega (arith, l)); less = some; had = λ j m. omega (arith, had j m); ahead = λ j l. had j }
 
-    -- the one at place i, who lacks `most` and is given a cent if there is one, or lacks less, or had one before
-    pub serving_next : (k i next left b after : ℕ) (now then : Marks) (served : Bool) → Serving most n was k i next now → 0 < d → 0 < most → left ≡ rest i → served ≡ nat_eq left most && nat_lt 0 k → b ≡ bool_byte served → is_marked then i ≡ (served || is_marked now i) → ((j : ℕ) → j ≢ i → is_marked then j ≡ is_marked now j) → next ≤ after → (next < most → after < most) → (left < most → left ≤ after) → Serving most n was (k - b) (i + 1) after then
+    -- the one at place i, who lacks `most` and is given a cent, or lacks less, or had one before
+    pub serving_next : (k i next left b after : ℕ) (now then : Marks) (served : Bool) → Serving most n was k i next now → 0 < d → 0 < most → 0 < k → left ≡ rest i → served ≡ nat_eq left most → b ≡ bool_byte served → is_marked then i ≡ (served || is_marked now i) → ((j : ℕ) → j ≢ i → is_marked then j ≡ is_marked now j) → next ≤ after → (next < most → after < most) → (left < most → left ≤ after) → Serving most n was (k - b) (i + 1) after then
     unfolding Serving
-    serving_next k i next left b after now then true s parted some l v e this others more less kept =
-        let p : (left ≡ most) × (0 < k) = grind (arith, nat_tests, v) in
-        let most_left : rest i ≡ most = omega (arith, l, p.0) in
+    serving_next k i next left b after now then true s parted some one_left l v e this others more less kept =
+        let most_left : rest i ≡ most = grind (arith, nat_tests, v, l) in
         let it = lack_unmarked (is_marked now) i most most_left (s.ahead i (omega arith)) in
         let one : b ≡ 1 = e in
-        let before : (j : ℕ) → j < i → lack d (is_marked now) xs j < most = λ j h. omega (arith, s.before p.1 j h, s.less) in
+        let before : (j : ℕ) → j < i → lack d (is_marked now) xs j < most = λ j h. omega (arith, s.before one_left j h, s.less) in
         rw one (record {
-          alike = given_more d xs parted (is_marked now) (is_marked then) i most this others s.all some it before k _ p.1 s.alike;
+          alike = given_more d xs parted (is_marked now) (is_marked then) i most this others s.all some it before k _ one_left s.alike;
           all = most_still d xs parted (is_marked now) (is_marked then) i most this others s.all;
-          before = λ some j h. omega (arith, still_before d xs parted (is_marked now) (is_marked then) i most this others next (s.before p.1) j h, more);
+          before = λ some j h. omega (arith, still_before d xs parted (is_marked now) (is_marked then) i most this others next (s.before one_left) j h, more);
           less = less s.less;
           had = λ j m. grind (arith, most_left, others j, s.had j);
           ahead = λ j h m. s.ahead j (omega (arith, h)) (sym (others j (omega (arith, h))) ∙ m);
         })
-    serving_next k i next left b after now then false s parted some l v e this others more less kept =
+    serving_next k i next left b after now then false s parted some one_left l v e this others more less kept =
         let same : (j : ℕ) → is_marked then j ≡ is_marked now j = λ j. grind (arith, this, others j) in
         let alike : (j : ℕ) → lack d (is_marked then) xs j ≡ lack d (is_marked now) xs j = λ j. lack_same (is_marked now) (is_marked then) j (same j) in
         let none : k - b ≡ k = omega (arith, e) in
-        let other : 0 < k → rest i ≢ most = λ some. grind (arith, nat_tests, v, l) in
+        let other : rest i ≢ most = grind (arith, nat_tests, v, l) in
         rw none (record {
           alike = ap (give_left k d xs) (same_rounded d (is_marked now) (is_marked then) xs same) ∙ s.alike;
           all = λ j. omega (arith, alike j, s.all j);
-          before = λ some. below_more _ _ (λ j h. omega (arith, alike j, s.before some j h, more)) (omega (arith, alike i, lack_under (is_marked now) i most after (s.all i) (other some) (rw l at kept)));
+          before = λ some. below_more _ _ (λ j h. omega (arith, alike j, s.before some j h, more)) (omega (arith, alike i, lack_under (is_marked now) i most after (s.all i) other (rw l at kept)));
           less = less s.less;
           had = λ j m. s.had j (sym (same j) ∙ m);
           ahead = λ j h m. s.ahead j (omega (arith, h)) (sym (same j) ∙ m);

@@ -78,9 +78,12 @@ fn give_to<P: Parted>(shares: &P, more: &mut Marks, most: u64, cents: u64) -> (u
     let mut left = cents;
     let mut next = 0;
     for i in 0..shares.count() {
+        if left == 0 {
+            break;
+        }
         let (_, rest) = shares.at(i);
         // Not by branches, which no processor can foretell.
-        let served = (rest == most) & (left > 0);
+        let served = rest == most;
         more.mark(i, served);
         left -= u64::from(served);
         let other = if rest < most { rest } else { 0 };

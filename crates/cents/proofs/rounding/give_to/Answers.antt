@@ -10,4 +10,4 @@ loop-i-preserved g c =
           then-rest-most w ↦ grind (arith, w.other-is, w.if-rest-most.true, c.max-next.ensures)
           | else-rest-most w ↦ grind (arith, w.other-is, w.if-rest-most.false, c.max-next.ensures, c.requires.some)
         ] in
-    serving_next _ _ _ _ _ _ _ _ _ _ _ _ _ _ c.loop-i.invariant c.count-i-end.ensures.parted c.requires.some c.at-rest.ensures.left refl c.from-left.ensures c.mark.ensures.this c.mark.ensures.others next.0 next.1 next.2
+    serving_next _ _ _ _ _ _ _ _ _ _ _ _ _ _ c.loop-i.invariant c.count-i-end.ensures.parted c.requires.some (omega (arith, c.if-left-eq0.false)) c.at-rest.ensures.left refl c.from-left.ensures c.mark.ensures.this c.mark.ensures.others next.0 next.1 next.2
