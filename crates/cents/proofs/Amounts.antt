@@ -40,6 +40,7 @@ module _ (d : ℕ) where
   round_up : (x : ℕ) → 0 < x % d → rounded d true x ≡ suc (rounded d false x)
   round_up x h = omega (arith, h)
 
+  -- a cent more for who is to have one and lacks something
   tested : (x : ℕ) (some also : Bool) → nat_lt 0 (x % d) ≡ some → x / d + bool_byte (some && also) ≡ rounded d also x
   tested x true true e = let some : 0 < x % d = grind (arith, nat_tests, e) in omega (arith, round_up x some)
   tested x true false e = omega arith

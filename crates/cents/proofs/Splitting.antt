@@ -1,6 +1,6 @@
 -- The shares of claims on the terms of a division, without a division for each. Assumes nothing.
-use Rattle.std.proofs.Common.{◌≡◌, ℕ, ◌+◌, ◌-◌, ◌*◌, ◌/◌, ◌%◌, ◌<◌, ◌≤◌, zero, suc, Bool, true, false, List, [], ◌∷◌, get_or, refl, sym, ap, ◌∙◌, arith}
-use Rattle.std.proofs.Math.Nat.{add-mul-div_left, add-mul-mod_self_left, div-eq_of_lt, mod-eq_of_lt, mod_self, mul-le-mul_left, mul-le-mul, mul-div-le, lt-mul-div-succ, div-lt_iff_lt-mul, le-mul_of_pos_right}
+use Rattle.std.proofs.Common.{◌≡◌, ℕ, ◌+◌, ◌-◌, ◌*◌, ◌/◌, ◌%◌, ◌<◌, ◌≤◌, zero, suc, Bool, true, false, [], ◌∷◌, get_or, refl, sym, ap, ◌∙◌, arith}
+use Rattle.std.proofs.Math.Nat.{add-mul-div_left, add-mul-mod_self_left, div-eq_of_lt, mod-eq_of_lt, mod_self, mul-le-mul_left, mul-le-mul, mul-div-le, lt-mul-div-succ, div-lt_iff_lt-mul}
 use Rattle.estate.specs.Closed.{share}
 use Rattle.std.specs.Int.{div_ceil}
 use Rattle.std.proofs.lemmas.Bool.{false≢true}
@@ -34,8 +34,8 @@ module _ (m n d : ℕ) (some : 0 < m) (double : d ≡ 2 * m) (word : n ≤ 18446
         let twice : c ≡ 2 * (c / 2) + c % 2 = omega arith in
         let odd : c % 2 ≤ 1 = omega arith in
         divided (got b c) d (c / 2) (m * (c % 2))
-            (rw double (omega (arith, exact b, ap (λ k. m * k) twice)))
-            (omega (arith, double, some, mul-le-mul_left m odd))
+        (rw double (omega (arith, exact b, ap (λ k. m * k) twice)))
+        (omega (arith, double, some, mul-le-mul_left m odd))
 
   -- a larger one has the level or loses it
   module _ (c : ℕ) (above : n / m < c) (few : c ≤ 4294967295) (parts : d ≤ 4294967295) where

@@ -9,12 +9,12 @@ use level::{Side, Terms};
 use shares::{Shares, share};
 use wire::Numbers;
 
-// Up to here claims, and parts of a cent, come to no more than a word: none of an estate within the limits is larger.
+// A claim and parts of a cent up to here come to no more than a word. Within the limits none is larger.
 const MOST_CLAIM: u64 = 0xffff_ffff;
 
 // The shares of claims, and what is the same for all: worked out once, so that no claim needs a division. A claim up to
-// `filled` has half of what it is; a larger one has the level or loses it, of which the whole cents and what is left are known.
-// Claims above `most`, of which no estate within the limits has any, are divided each.
+// `filled` has half of what it is. A larger one has the level, or loses it: whole cents, and less than a cent that is left.
+// The shares of claims above `most`, of which no estate within the limits has any, are divided each.
 #[derive(Clone, Copy, Debug)]
 pub struct Split<'a> {
     pub(crate) shares: Shares<'a>,
@@ -26,12 +26,14 @@ pub struct Split<'a> {
     left: [u64; 4],
     ghost parted: { 0 < parts },
     ghost filled_whole: { (c : ℕ) → c ≤ filled → share_word shares.terms c / parts ≡ c / 2 },
-    ghost filled_left: { (c : ℕ) → c ≤ filled → share_word shares.terms c % parts ≡ slice_index left (c % 2) },
+    ghost filled_left: { (c : ℕ) → c ≤ filled
+        → share_word shares.terms c % parts ≡ slice_index left (c % 2) },
     ghost gained: { gains shares.terms.side ≡ true → (c : ℕ) → filled < c → c ≤ most
         → share_word shares.terms c / parts ≡ level },
     ghost lost: { gains shares.terms.side ≡ false → (c : ℕ) → filled < c → c ≤ most
         → share_word shares.terms c / parts + level ≡ c },
-    ghost level_left: { (c : ℕ) → filled < c → c ≤ most → share_word shares.terms c % parts ≡ slice_index left (2 + c % 2) },
+    ghost level_left: { (c : ℕ) → filled < c → c ≤ most
+        → share_word shares.terms c % parts ≡ slice_index left (2 + c % 2) },
 }
 
 impl Parted for Split<'_> {
@@ -52,18 +54,19 @@ impl Parted for Split<'_> {
         let Some(claim) = self.shares.claims.get(i) else {
             return (0, 0);
         };
-        self.of(*claim)
+        self.split(*claim)
     }
 }
 
 impl<'a> Split<'a> {
+    // The shares, with what is the same for all.
     pub(crate) fn new(shares: Shares<'a>) -> Self
         ensures parts { result.parts ≡ parts_word shares.entry.terms }
         ensures items { shares_of result.shares ≡ shares_of shares.entry }
     {
         let Terms { side, level } = shares.terms;
         let parts = shares.terms.parts();
-        // Only of terms that somebody made up.
+        // So it is only with terms that somebody made up.
         if level.denominator == 0 || parts > MOST_CLAIM {
             return Split {
                 shares,
@@ -86,7 +89,7 @@ impl<'a> Split<'a> {
     }
 
     // The share of a claim, rounded down to whole cents, and what is then left of it.
-    fn of(&self, claim: u64) -> (u64, u64)
+    fn split(&self, claim: u64) -> (u64, u64)
         ensures whole { result.0 ≡ share_word self.now.shares.terms claim / self.now.parts }
         ensures left { result.1 ≡ share_word self.now.shares.terms claim % self.now.parts }
     {
@@ -94,7 +97,7 @@ impl<'a> Split<'a> {
             let share = share(self.shares.terms, claim);
             return (share / self.parts, share % self.parts);
         }
-        // By no branch, which no processor can foretell: what is left is looked up.
+        // Not by branches, which no processor can foretell: what is left is looked up.
         let above = claim > self.filled;
         let level = match self.shares.terms.side {
             Side::Gains => self.level,

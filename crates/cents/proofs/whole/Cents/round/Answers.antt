@@ -1,4 +1,4 @@
-use Rattle.std.proofs.Common.{arith, ap}
+use Rattle.std.proofs.Common.{arith}
 use Rattle.cents.proofs.Left.{few_left}
 use Rattle.cents.proofs.whole.Cents.round.Goals as goal
 
