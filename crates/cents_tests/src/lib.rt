@@ -6,4 +6,6 @@ mod cost;
 #[cfg(test)]
 mod given;
 #[cfg(test)]
+mod split;
+#[cfg(test)]
 mod whole;
