@@ -85,14 +85,8 @@ module _ (m n d : ℕ) (some : 0 < m) (double : d ≡ 2 * m) (word : n ≤ 18446
     left true = ap (λ k. k % d) gained
     left false = level_lost.1
 
--- what is left of a claim, looked up: of an even or odd one up to the level, which lacks nothing or half, and above it
-module _ (half over : ℕ) where
-  pub looked_up : (odd : ℕ) → odd < 2 → get_or (0 ∷ half ∷ over ∷ over ∷ []) odd 0 ≡ half * odd
-  looked_up zero h = omega arith
-  looked_up (suc zero) h = omega arith
-  looked_up (suc (suc k)) h = absurd (omega (arith, h))
-
-  pub looked_up_above : (odd : ℕ) → odd < 2 → get_or (0 ∷ half ∷ over ∷ over ∷ []) (2 + odd) 0 ≡ over
-  looked_up_above zero h = refl
-  looked_up_above (suc zero) h = refl
-  looked_up_above (suc (suc k)) h = absurd (omega (arith, h))
+-- what is left of a claim up to the level, looked up: of an even one nothing, and of an odd one half a cent
+pub looked_up : (half odd : ℕ) → odd < 2 → get_or (0 ∷ half ∷ []) odd 0 ≡ half * odd
+looked_up half zero h = omega arith
+looked_up half (suc zero) h = omega arith
+looked_up half (suc (suc k)) h = absurd (omega (arith, h))

@@ -22,18 +22,19 @@ pub struct Split<'a> {
     filled: u64,
     most: u64,
     level: u64,
-    // of even and odd claims up to `filled`, and of those above
-    left: [u64; 4],
+    // of claims above `filled`, and of even and odd ones up to it
+    left: u64,
+    half: [u64; 2],
     ghost parted: { 0 < parts },
     ghost filled_whole: { (c : ℕ) → c ≤ filled → share_word shares.terms c / parts ≡ c / 2 },
     ghost filled_left: { (c : ℕ) → c ≤ filled
-        → share_word shares.terms c % parts ≡ slice_index left (c % 2) },
+        → share_word shares.terms c % parts ≡ slice_index half (c % 2) },
     ghost gained: { gains shares.terms.side ≡ true → (c : ℕ) → filled < c → c ≤ most
         → share_word shares.terms c / parts ≡ level },
     ghost lost: { gains shares.terms.side ≡ false → (c : ℕ) → filled < c → c ≤ most
         → share_word shares.terms c / parts + level ≡ c },
     ghost level_left: { (c : ℕ) → filled < c → c ≤ most
-        → share_word shares.terms c % parts ≡ slice_index left (2 + c % 2) },
+        → share_word shares.terms c % parts ≡ left },
 }
 
 impl Parted for Split<'_> {
@@ -74,7 +75,8 @@ impl<'a> Split<'a> {
                 filled: 0,
                 most: 0,
                 level: 0,
-                left: [0; 4],
+                left: 0,
+                half: [0; 2],
             };
         }
         let (whole, left) = at_level(side, parts, level.numerator);
@@ -84,7 +86,8 @@ impl<'a> Split<'a> {
             filled: level.numerator / level.denominator,
             most: MOST_CLAIM,
             level: whole,
-            left: [0, level.denominator, left, left],
+            left,
+            half: [0, level.denominator],
         }
     }
 
@@ -104,7 +107,8 @@ impl<'a> Split<'a> {
             Side::Losses => claim.saturating_sub(self.level),
         };
         let whole = if above { level } else { claim / 2 };
-        let left = self.left[(2 * u64::from(above) + claim % 2) as usize];
+        let half = self.half[(claim % 2) as usize];
+        let left = if above { self.left } else { half };
         (whole, left)
     }
 }

@@ -1,6 +1,6 @@
 use Rattle.std.proofs.Common.{◌≡◌, ◌*◌, ◌<◌, ◌≤◌, ◌%◌, sym, ◌∙◌, arith}
 use Rattle.level.specs.Sides.{gains}
-use Rattle.cents.proofs.Splitting.{filled, whole_gained, whole_lost, left, looked_up, looked_up_above}
+use Rattle.cents.proofs.Splitting.{filled, whole_gained, whole_lost, left, looked_up}
 use Rattle.cents.proofs.split.Split.new.Goals as goal
 
 pub invariant_of-result-2 : goal.invariant_of-result-2
@@ -16,8 +16,8 @@ invariant_of-result-2 c =
     record {
       parted = omega (arith, double, some);
       filled_whole = λ k h. (filled m n d some double word k h (gains t.side)).0;
-      filled_left = λ k h. (filled m n d some double word k h (gains t.side)).1 ∙ sym (looked_up m c.at_level-whole.result.1 (k % 2) (omega arith));
+      filled_left = λ k h. (filled m n d some double word k h (gains t.side)).1 ∙ sym (looked_up m (k % 2) (omega arith));
       gained = λ side k a h. rw (c.at_level-whole.ensures.whole) (whole_gained m n d some double word k a h few (gains t.side) side);
       lost = λ side k a h. rw (c.at_level-whole.ensures.whole) (whole_lost m n d some double word k a h few (gains t.side) side);
-      level_left = λ k a h. left m n d some double word k a h few (gains t.side) ∙ sym (looked_up_above m c.at_level-whole.result.1 (k % 2) (omega arith) ∙ c.at_level-whole.ensures.left);
+      level_left = λ k a h. rw (c.at_level-whole.ensures.left) (left m n d some double word k a h few (gains t.side));
     }
