@@ -97,8 +97,7 @@ impl<'a> Split<'a> {
         ensures left { result.1 ≡ share_word self.now.shares.terms claim % self.now.parts }
     {
         if claim > self.most {
-            let share = share(self.shares.terms, claim);
-            return (share / self.parts, share % self.parts);
+            return by_division(self.shares.terms, self.parts, claim);
         }
         // Not by branches, which no processor can foretell: what is left is looked up.
         let above = claim > self.filled;
@@ -111,6 +110,18 @@ impl<'a> Split<'a> {
         let left = if above { self.left } else { half };
         (whole, left)
     }
+}
+
+// The same by a division. It is kept out of the loops, since no claim within the limits comes to it.
+#[cold]
+#[inline(never)]
+fn by_division(terms: Terms, parts: u64, claim: u64) -> (u64, u64)
+    requires { 0 < parts }
+    ensures whole { result.0 ≡ share_word terms claim / parts }
+    ensures left { result.1 ≡ share_word terms claim % parts }
+{
+    let share = share(terms, claim);
+    (share / parts, share % parts)
 }
 
 // What a claim above the level has in whole cents, or loses, and what is left of it, where n of d parts of a cent are levelled.
