@@ -1,8 +1,10 @@
 -- The shares of claims on the terms of a division, without a division for each. Assumes nothing.
-use Rattle.std.proofs.Common.{◌≡◌, ℕ, ◌+◌, ◌-◌, ◌*◌, ◌/◌, ◌%◌, ◌<◌, ◌≤◌, zero, suc, Bool, true, false, [], ◌∷◌, get_or, refl, sym, ap, ◌∙◌, arith}
+use Rattle.std.proofs.Common.{◌≡◌, ℕ, ◌+◌, ◌-◌, ◌*◌, ◌/◌, ◌%◌, ◌<◌, ◌≤◌, zero, suc, Bool, nat_le, true, false, [], ◌∷◌, get_or, refl, sym, ap, ◌∙◌, arith}
 use Rattle.std.proofs.Math.Nat.{add-mul-div_left, add-mul-mod_self_left, div-eq_of_lt, mod-eq_of_lt, mod_self, mul-le-mul_left, mul-le-mul, mul-div-le, lt-mul-div-succ, div-lt_iff_lt-mul}
 use Rattle.estate.specs.Closed.{share}
 use Rattle.std.specs.Int.{div_ceil}
+use mir.Val.{bool_byte}
+use Rattle.std.proofs.lemmas.Bool.Decides.{nat_tests}
 use Rattle.std.proofs.lemmas.Bool.{false≢true}
 use Rattle.cents.specs.Rounding.{level_whole, level_left}
 use Rattle.level.specs.Words.{held}
@@ -13,6 +15,21 @@ divided x d q r e l =
     let s : x ≡ r + d * q = omega (arith, e) in
     let some : 0 < d = omega (arith, l) in
     (omega (arith, ap (λ k. k / d) s, add-mul-div_left r q some, div-eq_of_lt l), omega (arith, ap (λ k. k % d) s, add-mul-mod_self_left r d q, mod-eq_of_lt l))
+
+-- a quotient by m, from one by twice m
+pub halved : (m n d b : ℕ) → 0 < m → d ≡ 2 * m → b ≡ bool_byte (nat_le m (n % d)) → 2 * (n / d) + b ≡ n / m
+halved m n d b some double e = decided (nat_le m (n % d)) refl
+  where
+    whole : n ≡ 2 * m * (n / d) + n % d
+    whole = rw (← double) (omega (arith, double, some))
+
+    decided : (c : Bool) → nat_le m (n % d) ≡ c → 2 * (n / d) + b ≡ n / m
+    decided true h =
+        let over : m ≤ n % d = grind (arith, nat_tests, h) in
+        omega (arith, rw h at e, (divided n m (2 * (n / d) + 1) (n % d - m) (omega (arith, whole, over)) (omega (arith, double, over, some))).0)
+    decided false h =
+        let under : n % d < m = grind (arith, nat_tests, h) in
+        omega (arith, rw h at e, (divided n m (2 * (n / d)) (n % d) (omega (arith, whole)) under).0)
 
 -- n is spread among m sharers, so that a cent has d parts
 module _ (m n d : ℕ) (some : 0 < m) (double : d ≡ 2 * m) (word : n ≤ 18446744073709551615) where

@@ -83,7 +83,7 @@ impl<'a> Split<'a> {
         Split {
             shares,
             parts,
-            filled: level.numerator / level.denominator,
+            filled: filled_up_to(parts, level.denominator, level.numerator),
             most: MOST_CLAIM,
             level: whole,
             left,
@@ -122,6 +122,16 @@ fn by_division(terms: Terms, parts: u64, claim: u64) -> (u64, u64)
 {
     let share = share(terms, claim);
     (share / parts, share % parts)
+}
+
+// Up to which claim half of it is no more than its part of what is spread, n / m. One division by d, which is twice m, serves
+// here and for the level.
+fn filled_up_to(d: u64, m: u64, n: u64) -> u64
+    requires some { 0 < m }
+    requires double { d ≡ 2 * m }
+    ensures { result ≡ n / m }
+{
+    2 * (n / d) + u64::from(n % d >= m)
 }
 
 // What a claim above the level has in whole cents, or loses, and what is left of it, where n of d parts of a cent are levelled.
