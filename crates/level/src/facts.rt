@@ -1,5 +1,5 @@
 // What is known of an estate without looking at each claim.
-ghost use Rattle.std.specs.Prelude.{◌≡◌, ℕ, ◌<◌, ◌≤◌, IfSome, IfNone, slice_index, sum};
+ghost use Rattle.std.specs.Prelude.{◌≡◌, ◌<◌, ◌≤◌, IfSome, IfNone, sum};
 ghost use Rattle.estate.specs.Level.{scarce_of_sum, target_of_sum};
 ghost use Rattle.estate.specs.Limits.{most_there};
 ghost use Rattle.level.specs.Words.{held};
@@ -76,17 +76,4 @@ pub fn total(claims: &[u64]) -> u64
         claimed = claimed.saturating_add(*claim);
     }
     claimed
-}
-
-// Neither the first number nor a word is more than this, which has the bits of all.
-#[tactic(auto, using(crate::proofs::Bits::bits_steps))]
-pub fn all_bits(first: u64, words: &[u64]) -> u64
-    ensures first { first ≤ result }
-    ensures words { (i : ℕ) → slice_index words.now i ≤ result }
-{
-    let mut bits = first;
-    for word in words {
-        bits |= *word;
-    }
-    bits
 }

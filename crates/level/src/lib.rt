@@ -6,5 +6,5 @@ mod facts;
 mod filling;
 
 pub use closed::{Terms, terms_of};
-pub use facts::{Estate, Side, all_bits, total};
+pub use facts::{Estate, Side, total};
 pub use filling::{Fraction, fill};

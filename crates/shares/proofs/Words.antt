@@ -1,6 +1,9 @@
 -- Shares in words. Assumes nothing.
-use Rattle.std.proofs.Common.{◌≡◌, ℕ, zero, suc, ◌+◌, ◌<◌, ◌≤◌, List, [], ◌∷◌, ◌++◌, map, length, get_or, take, drop, slice_set, sym, ◌∙◌, arith}
-use Rattle.std.proofs.lemmas.List.{length-map, get_or-map, take_all}
+use Rattle.std.proofs.Common.{◌≡◌, ℕ, zero, suc, ◌+◌, ◌<◌, ◌≤◌, List, [], ◌∷◌, ◌++◌, map, length, get_or, take, drop, slice_set, bit_or, sym, ap, ◌∙◌, arith}
+use Rattle.std.proofs.lemmas.List.{length-map, get_or-map, get_or_past, take_all}
+use mathlib.Core.Logic.{inl, inr}
+use Rattle.std.proofs.lemmas.Bool.{cases_lt}
+use Rattle.std.proofs.lemmas.Nat.{le_or_l, le_or_r}
 use Rattle.std.proofs.lemmas.Grind.{elements}
 use Rattle.std.proofs.lemmas.Option.{slice_get-map}
 use Rattle.level.specs.declared.closed.Terms.{Terms}
@@ -25,5 +28,22 @@ pub ruleset write_steps = (word_more, share_at, length-map)
 pub ruleset put_steps = (put_more, share_at, take_all, length-map, length-flat_map)
 
 pub ruleset put_long = (length-map, length-flat_map)
+
+-- a word is no more than bits of which it has some, and those before it are none either
+module _ (b : ℕ) (ws : List ℕ) where
+  pub bits_more : (i k w : ℕ) → i < length ws → w ≡ get_or ws i 0 → ((j : ℕ) → j < i → get_or ws j 0 ≤ b) → k < i + 1 → get_or ws k 0 ≤ bit_or b w
+  bits_more i k w some is before less =
+      elim (cases_lt k i) [
+        | inl l ↦ omega (arith, before k l, le_or_l b w)
+        | inr g ↦ omega (arith, ap (λ j. get_or ws j 0) (same g), is, le_or_r b w)
+      ]
+    where
+      same : i ≤ k → k ≡ i
+      same g = omega (arith, g, less)
+
+  pub bits_all : (k : ℕ) → ((j : ℕ) → j < length ws → get_or ws j 0 ≤ b) → get_or ws k 0 ≤ b
+  bits_all k within = grind (arith, within k, get_or_past)
+
+pub ruleset bits_steps = (bits_more, bits_all, le_or_l)
 
 pub ruleset get = (slice_get-map)

@@ -9,7 +9,7 @@ ghost use Rattle.wire.specs.Bytes.{eight};
 ghost use Rattle.wire.specs.Meaning.{told};
 ghost use Rattle.wire.specs.Written.{Written};
 
-use level::{Side, Terms, all_bits};
+use level::{Side, Terms};
 use wire::{Answer, Numbers, Refusal};
 
 // What a claim gets. Of terms that somebody made up it may be more than a word holds, and is then the largest word.
@@ -72,6 +72,19 @@ fn put_shares(terms: Terms, claims: &[u64], out: &mut [u8])
     } else {
         put_any(terms, claims, out);
     }
+}
+
+// Neither the factor nor a word is more than this, which has the bits of all.
+#[tactic(auto, using(crate::proofs::Words::bits_steps))]
+fn all_bits(factor: u64, words: &[u64]) -> u64
+    ensures factor { factor ≤ result }
+    ensures words { (i : ℕ) → slice_index words.now i ≤ result }
+{
+    let mut bits = factor;
+    for word in words {
+        bits |= *word;
+    }
+    bits
 }
 
 // The same of any claims.

@@ -1,7 +1,8 @@
 -- Sums that are renewed from a place on. Assumes nothing.
-use Rattle.std.proofs.Common.{◌≡◌, ℕ, ◌+◌, ◌<◌, ◌≤◌, List, ◌∷◌, [], ◌++◌, length, take, drop, set, sum, slice_index, refl, sym, ◌∙◌, ◌-◌, ◌^◌, arith, append_assoc, zero-add}
+use Rattle.std.proofs.Common.{◌≡◌, ℕ, ◌+◌, ◌<◌, ◌≤◌, List, ◌∷◌, [], ◌++◌, length, take, drop, set, sum, slice_index, refl, sym, ◌∙◌, ◌-◌, ◌*◌, ◌/◌, ◌%◌, ◌^◌, bit_or, arith, append_assoc, zero-add}
 use borrow.Rule.Slice.PartMut.{put_mid}
 use Rattle.std.proofs.lemmas.List.{take_all, drop_all, drop_more, take_more_set, append-nil, length-take, length-drop, length-append}
+use Rattle.std.proofs.lemmas.Nat.{le_or_l, le_or_r}
 use Rattle.level.specs.Words.{held}
 use Rattle.sums.specs.Sums.{sums_from, sums_of, total_of, renewed}
 use Rattle.sums.proofs.Sums.{sums_long, sums_apart, sums_held, total_sums}
@@ -31,11 +32,38 @@ made_all i s ks ws all last paired made =
     let rest = drop_all i ks last in
     sym (append-nil ws) ∙ rw (front, rest) at made
 
--- where a word holds the sum nothing saturates
-pub made_plain : (i s : ℕ) (ks ws all : List ℕ) → i < length ks → length ws ≡ length ks → s + slice_index ks i < 2 ^ 64 → MadeTo i s ks ws all → MadeTo (i + 1) (s + slice_index ks i) ks (set ws i (s + slice_index ks i)) all
-made_plain i s ks ws all some paired fits made = made_more i s (s + slice_index ks i) ks ws all some paired (omega (arith, fits)) made
+pub ruleset any = (made_none, made_more, made_all)
 
-pub ruleset summing = (made_none, made_more, made_plain, made_all)
+-- The same where b, which has the bits of all claims before place i, of their number and of t / 2 ^ 31, is small: with t
+-- claimed before them nothing has wrapped.
+unfoldable pub SmallTo : ℕ → ℕ → ℕ → ℕ → List ℕ → List ℕ → Type 0
+SmallTo i b s t ks ws = (length ks ≤ b) × (b < 2 ^ 31 → MadeTo i s ks ws (sums_from t ks) × (s < 2 ^ 62 + i * 2 ^ 31))
+
+pub small_none : (b t : ℕ) (ks ws : List ℕ) → b ≡ bit_or (length ks) (t / 2 ^ 31) → SmallTo 0 b t t ks ws
+unfolding SmallTo
+small_none b t ks ws is =
+    let few = le_or_l (length ks) (t / 2 ^ 31) in
+    let low = le_or_r (length ks) (t / 2 ^ 31) in
+    (omega (arith, is, few), λ small. (made_none t ks ws, omega (arith, is, low, small)))
+
+pub small_more : (i b c s v t : ℕ) (ks ws : List ℕ) → i < length ks → length ws ≡ length ks → c ≡ bit_or b (slice_index ks i) → v ≡ (s + slice_index ks i) % 2 ^ 64 → SmallTo i b s t ks ws → SmallTo (i + 1) c v t ks (set ws i v)
+unfolding SmallTo
+small_more i b c s v t ks ws some paired more is so =
+    let k = slice_index ks i in
+    let old = le_or_l b k in
+    let new = le_or_r b k in (
+      omega (arith, more, old, so.0),
+      λ small.
+          let now = so.1 (omega (arith, more, old, small)) in
+          let sum : v ≡ s + k = omega (arith, is, more, new, old, small, so.0, some, now.1) in
+          (made_more i s v ks ws (sums_from t ks) some paired (omega (arith, sum, is)) now.0, omega (arith, sum, now.1, more, new, small)),
+    )
+
+pub small_all : (i b s t : ℕ) (ks ws : List ℕ) → length ks ≤ i → length ws ≡ length ks → SmallTo i b s t ks ws → b < 2 ^ 31 → ws ≡ sums_from t ks
+unfolding SmallTo
+small_all i b s t ks ws last paired so small = made_all i s ks ws (sums_from t ks) last paired (so.1 small).0
+
+pub ruleset small = (small_none, small_more, small_all)
 
 -- the sums from a place on, made of what the words before tell
 pub renewing : (a s : ℕ) (ks ws sums : List ℕ) → s ≡ total_of (take a ws) → sums ≡ sums_from s (take (length ks - a) (drop a ks)) → put_mid a (length ws - a) ws sums ≡ renewed a ks ws

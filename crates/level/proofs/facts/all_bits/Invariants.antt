@@ -1,5 +1,0 @@
-use Rattle.std.proofs.Common.{ℕ, ◌<◌, ◌≤◌, slice_index}
-use Rattle.level.proofs.facts.all_bits.Given as goal
-
-abbrev pub invariant-loop-word : goal.invariant-loop-word
-invariant-loop-word l = (l.fn.first ≤ l.bits) × ((j : ℕ) → j < l.word-index → slice_index l.words j ≤ l.bits)
