@@ -124,8 +124,8 @@ fn by_division(terms: Terms, parts: u64, claim: u64) -> (u64, u64)
     (share / parts, share % parts)
 }
 
-// Up to which claim half of it is no more than its part of what is spread, n / m. One division by d, which is twice m, serves
-// here and for the level.
+// Up to which claim half of it is no more than its part of what is spread, n / m. One division by d, which is twice m,
+// serves here and for the level.
 fn filled_up_to(d: u64, m: u64, n: u64) -> u64
     requires some { 0 < m }
     requires double { d ≡ 2 * m }
@@ -134,7 +134,8 @@ fn filled_up_to(d: u64, m: u64, n: u64) -> u64
     2 * (n / d) + u64::from(n % d >= m)
 }
 
-// What a claim above the level has in whole cents, or loses, and what is left of it, where n of d parts of a cent are levelled.
+// What a claim above the level has in whole cents, or loses, and what is left of it. What is levelled is n, in d-ths of a
+// cent.
 fn at_level(side: Side, d: u64, n: u64) -> (u64, u64)
     requires { 0 < d }
     ensures whole { result.0 ≡ level_whole (gains side) d n }
