@@ -27,14 +27,12 @@ impl<'a> Part<'a> {
     {
         // A loop, since the library's `partition_point` says of words out of order no more than that it is in the part.
         let mut low = self.start;
-        let mut high = self.end;
-        while low < high {
-            let middle = low + (high - low) / 2;
-            if self.words[middle] < claim {
-                low = middle + 1;
-            } else {
-                high = middle;
-            }
+        let mut left = self.end - self.start;
+        while left > 0 {
+            let half = left / 2;
+            let more = usize::from(self.words[low + half] < claim);
+            low += more * (half + 1);
+            left = (left - more) / 2;
         }
         low
     }

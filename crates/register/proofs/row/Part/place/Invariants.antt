@@ -1,9 +1,9 @@
-use Rattle.std.proofs.Common.{◌-◌, ◌<◌, ◌≤◌, get_or}
+use Rattle.std.proofs.Common.{◌+◌, ◌-◌, ◌<◌, ◌≤◌, get_or}
 use Rattle.register.proofs.row.Part.place.Given as goal
 
-abbrev pub invariant-loop-low : goal.invariant-loop-low
-invariant-loop-low l =
-    (l.self.start ≤ l.low) × (l.low ≤ l.high) × (l.high ≤ l.self.end) × (l.self.start < l.low → get_or l.self.words.now (l.low - 1) 0 < l.claim) × (l.high < l.self.end → l.claim ≤ get_or l.self.words.now l.high 0)
+abbrev pub invariant-loop-left : goal.invariant-loop-left
+invariant-loop-left l =
+    (l.self.start ≤ l.low) × (l.low + l.left ≤ l.self.end) × (l.self.start < l.low → get_or l.self.words.now (l.low - 1) 0 < l.claim) × (l.low + l.left < l.self.end → l.claim ≤ get_or l.self.words.now (l.low + l.left) 0)
 
-abbrev pub decreases-loop-low : goal.decreases-loop-low
-decreases-loop-low l = l.high - l.low
+abbrev pub decreases-loop-left : goal.decreases-loop-left
+decreases-loop-left l = l.left
