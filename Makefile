@@ -47,7 +47,7 @@ uninstall:
 # The library and the clerks' program, driven from Rust and from C. The benchmark takes over a minute, on a machine that does
 # nothing else.
 test: all build/clerk-asan build/hostile
-	build/hostile
+	ASAN_OPTIONS=detect_leaks=0 build/hostile
 	cd clients/rust && cargo test --release --offline
 
 bench: $(LIBRARY) build/libmeasured.a
