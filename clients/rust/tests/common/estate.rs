@@ -170,8 +170,8 @@ impl Estate {
     }
 }
 
-/// The sums over claims in order: at each place j those from j without the ones in which it ends in binary digits.
+/// The sums over claims in order: at each place those up to it.
 fn sums(ordered: &[u64]) -> Vec<u64> {
-    let sum = |j: usize| ordered[j & (j + 1)..=j].iter().sum();
+    let sum = |place: usize| ordered[..=place].iter().sum();
     (0..ordered.len()).map(sum).collect()
 }
