@@ -37,7 +37,7 @@ install: all
 	install -m 644 include/vullades.h $(INTO)/include/vullades.h
 	install -m 644 $(LIBRARY) $(INTO)/lib/libvullades.a
 	printf '%s\n' 'prefix=$(PREFIX)' 'Name: vullades' \
-	  'Description: Divides estates that leave less than is owed' 'Version: 1.0.0' \
+	  'Description: Divides estates that leave less than is owed' 'Version: 0.1.0' \
 	  'Cflags: -I$${prefix}/include' 'Libs: -L$${prefix}/lib -lvullades' >$(INTO)/lib/pkgconfig/vullades.pc
 	chmod 644 $(INTO)/lib/pkgconfig/vullades.pc
 
