@@ -1,6 +1,6 @@
 -- The shares of claims on the terms of a division, without a division for each. Assumes nothing.
-use Rattle.std.proofs.Common.{◌≡◌, ℕ, ◌+◌, ◌-◌, ◌*◌, ◌/◌, ◌%◌, ◌<◌, ◌≤◌, zero, suc, Bool, nat_le, true, false, [], ◌∷◌, get_or, refl, sym, ap, ◌∙◌, arith}
-use Rattle.std.proofs.Math.Nat.{add-mul-div_left, add-mul-mod_self_left, div-eq_of_lt, mod-eq_of_lt, mod_self, mul-le-mul_left, mul-le-mul, mul-div-le, lt-mul-div-succ, div-lt_iff_lt-mul}
+use Rattle.std.proofs.Common.{◌≡◌, ℕ, ◌+◌, ◌-◌, ◌*◌, ◌/◌, ◌%◌, ◌^◌, ◌<◌, ◌≤◌, zero, suc, Bool, nat_le, true, false, [], ◌∷◌, get_or, refl, sym, ap, ◌∙◌, arith}
+use Rattle.std.proofs.Math.Nat.{zero-div, zero-mod, add-mul-div_left, add-mul-mod_self_left, div-eq_of_lt, mod-eq_of_lt, mod_self, mul-le-mul_left, mul-le-mul, mul-div-le, lt-mul-div-succ, div-lt_iff_lt-mul}
 use Rattle.estate.specs.Closed.{share}
 use Rattle.std.specs.Int.{div_ceil}
 use mir.Val.{bool_byte}
@@ -8,6 +8,9 @@ use Rattle.std.proofs.lemmas.Bool.Decides.{nat_tests}
 use Rattle.std.proofs.lemmas.Bool.{false≢true}
 use Rattle.cents.specs.Rounding.{level_whole, level_left}
 use Rattle.level.specs.Words.{held}
+use Rattle.level.specs.Sides.{gains}
+use Rattle.level.specs.declared.closed.Terms.{Terms}
+use Rattle.cents.specs.Splits.{Splits}
 
 -- what a whole number of cents and less than a cent more comes to
 divided : (x d q r : ℕ) → x ≡ d * q + r → r < d → (x / d ≡ q) × (x % d ≡ r)
@@ -107,3 +110,35 @@ pub looked_up : (half odd : ℕ) → odd < 2 → get_or (0 ∷ half ∷ []) odd 
 looked_up half zero h = omega arith
 looked_up half (suc zero) h = omega arith
 looked_up half (suc (suc k)) h = absurd (omega (arith, h))
+
+-- so shares are split where a level is worked out, and by a division each where it is not
+module _ (t : Terms) (d : ℕ) where
+  pub by_level : (up whole over : ℕ) → d ≡ 2 * t.level.denominator → 0 < t.level.denominator → d ≤ 4294967295 → t.level.numerator < 2 ^ 64 → up ≡ t.level.numerator / t.level.denominator → whole ≡ level_whole (gains t.side) d t.level.numerator → over ≡ level_left (gains t.side) d t.level.numerator → Splits t d up 4294967295 whole over (0 ∷ t.level.denominator ∷ [])
+  by_level up whole over double some parts word is has off =
+      let m = t.level.denominator in
+      let n = t.level.numerator in
+      let most : n ≤ 18446744073709551615 = omega (arith, word) in
+      let within : (c : ℕ) → c ≤ up → c ≤ n / m = λ c h. omega (arith, h, is) in
+      let past : (c : ℕ) → up < c → n / m < c = λ c h. omega (arith, h, is) in
+      record {
+        filled_whole = λ c h. (filled m n d some double most c (within c h) (gains t.side)).0;
+        filled_left = λ c h. (filled m n d some double most c (within c h) (gains t.side)).1 ∙ sym (looked_up m (c % 2) (omega arith));
+        gained = λ side c a h. rw has (whole_gained m n d some double most c (past c a) h parts (gains t.side) side);
+        lost = λ side c a h. rw has (whole_lost m n d some double most c (past c a) h parts (gains t.side) side);
+        level_left = λ c a h. rw off (left m n d some double most c (past c a) h parts (gains t.side));
+      }
+
+  none : (b : Bool) (m n : ℕ) → held (share b (record { spread = n; sharers = m }) 0) ≡ 0
+  none true m n = omega arith
+  none false m n = omega arith
+
+  pub by_none : Splits t d 0 0 0 0 (0 ∷ 0 ∷ [])
+  by_none = record {
+    filled_whole = λ c h. let zero_claim : c ≡ 0 = omega (arith, h) in rw (zero_claim, none (gains t.side) t.level.denominator t.level.numerator) (zero-div d);
+    filled_left = λ c h. let zero_claim : c ≡ 0 = omega (arith, h) in rw (zero_claim, none (gains t.side) t.level.denominator t.level.numerator) (zero-mod d);
+    gained = λ side c a h. absurd (omega (arith, a, h));
+    lost = λ side c a h. absurd (omega (arith, a, h));
+    level_left = λ c a h. absurd (omega (arith, a, h));
+  }
+
+pub ruleset splits = (by_level, by_none)

@@ -3,3 +3,4 @@ pub mod Rounding
 pub mod Parted
 pub mod Whole
 pub mod Laws
+pub mod Splits

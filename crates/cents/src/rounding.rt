@@ -86,8 +86,19 @@ fn give_to<P: Parted>(shares: &P, more: &mut Marks, most: u64, cents: u64) -> (u
         let served = rest == most;
         more.mark(i, served);
         left -= u64::from(served);
-        let other = if rest < most { rest } else { 0 };
-        next = next.max(other);
+        next = next_lacked(next, rest, most);
     }
     (left, next)
+}
+
+// The most of what somebody lacks besides, when it is looked at one more who lacks so much: less than the most that anybody
+// lacks.
+fn next_lacked(next: u64, rest: u64, most: u64) -> u64
+    ensures more { next ≤ result }
+    ensures less { next < most → result < most }
+    ensures kept { rest < most → rest ≤ result }
+{
+    // Not by a branch either.
+    let other = if rest < most { rest } else { 0 };
+    next.max(other)
 }

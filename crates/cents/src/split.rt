@@ -1,7 +1,8 @@
 // The shares of claims on the terms of a division, as whole cents without a division for each.
-ghost use Rattle.std.specs.Prelude.{◌≡◌, ℕ, true, false, slice_index, ◌+◌, ◌*◌, ◌/◌, ◌%◌, ◌<◌, ◌≤◌};
+ghost use Rattle.std.specs.Prelude.{◌≡◌, ◌*◌, ◌/◌, ◌%◌, ◌<◌};
 ghost use Rattle.level.specs.Sides.{gains};
 ghost use Rattle.cents.specs.Rounding.{level_whole, level_left};
+ghost use Rattle.cents.specs.Splits.{Splits};
 ghost use Rattle.shares.specs.Shares.{parts_word, share_word, shares_of};
 
 use crate::parted::Parted;
@@ -26,15 +27,7 @@ pub struct Split<'a> {
     left: u64,
     half: [u64; 2],
     ghost parted: { 0 < parts },
-    ghost filled_whole: { (c : ℕ) → c ≤ filled → share_word shares.terms c / parts ≡ c / 2 },
-    ghost filled_left: { (c : ℕ) → c ≤ filled
-        → share_word shares.terms c % parts ≡ slice_index half (c % 2) },
-    ghost gained: { gains shares.terms.side ≡ true → (c : ℕ) → filled < c → c ≤ most
-        → share_word shares.terms c / parts ≡ level },
-    ghost lost: { gains shares.terms.side ≡ false → (c : ℕ) → filled < c → c ≤ most
-        → share_word shares.terms c / parts + level ≡ c },
-    ghost level_left: { (c : ℕ) → filled < c → c ≤ most
-        → share_word shares.terms c % parts ≡ left },
+    ghost splits: { Splits shares.terms parts filled most level left half },
 }
 
 impl Parted for Split<'_> {
@@ -61,6 +54,7 @@ impl Parted for Split<'_> {
 
 impl<'a> Split<'a> {
     // The shares, with what is the same for all.
+    #[tactic(auto, using(crate::proofs::Splitting::splits))]
     pub(crate) fn new(shares: Shares<'a>) -> Self
         ensures parts { result.parts ≡ parts_word shares.entry.terms }
         ensures items { shares_of result.shares ≡ shares_of shares.entry }
