@@ -118,6 +118,7 @@ impl<'a> Row<'a> {
 
     // Puts in one more claim, and answers where. The word behind the row becomes its last; where there is none, nothing is
     // done.
+    #[inline]
     pub fn insert(&mut self, claim: u64) -> Option<usize>
         ensures { InsertedInto claim self.old self.new result }
     {
