@@ -1,16 +1,17 @@
 -- What is promised of a desk, said of every desk that does as the contracts of `open` and `call` say. Each is named by one
 -- of these contracts. Assumes nothing.
-use Rattle.std.specs.Prelude.{◌≡◌, ℕ, ◌≤◌, List, ◌++◌, Ok, Result}
+use Rattle.std.specs.Prelude.{◌≡◌, ◌≢◌, ℕ, ◌≤◌, true, false, List, ◌++◌, ◌==◌, Ok, Result}
 use Rattle.estate.specs.Calls.{Call}
 use Rattle.estate.specs.Changes.{after}
 use Rattle.estate.specs.Desks.{Memory, Desk, AnswersRight, RefusalKeeps}
 use Rattle.estate.specs.Estates.{Estate, new_estate}
 use Rattle.estate.specs.Limits.{Limits, most_creditors}
+use Rattle.estate.specs.Refusals.{unreadable, too_large, turned}
 use Rattle.estate.specs.Right.{answered}
 use Rattle.wire.specs.declared.refusals.TurnedAway.{TurnedAway}
 use Rattle.desk.specs.Memory.{layout, limits_of, estate_of, rest_of, Allowed, Stands, Lent}
 use Rattle.desk.specs.Opening.{Opened}
-use Rattle.desk.specs.Calling.{Given, Called}
+use Rattle.desk.specs.Calling.{Given, Called, turned_alone, turned_unlent}
 
 -- It leaves and answers what these contracts allow: when it is opened in some memory, and with each call, also one that no
 -- bytes hold, whatever bytes are lent for the answer, if these are enough.
@@ -25,6 +26,12 @@ DesksRight = (k : Desk) → Obeys k → AnswersRight k
 -- a call that is turned away changes nothing
 abbrev pub RefusalsKeep : Type 0
 RefusalsKeep = (k : Desk) → Obeys k → RefusalKeeps k
+
+-- a call that is turned away by itself gets that answer on every estate and under every limit; any other no estate refuses
+-- as unreadable or too large
+unfoldable pub RefusedAlone : Type 0
+RefusedAlone =
+    (l : Limits) (e : Estate) (c : Call) → ((turned_alone c == 0) ≡ false → answered l e c ≡ turned_unlent c) × ((turned_alone c == 0) ≡ true → (turned l e c ≢ unreadable) × (turned l e c ≢ too_large))
 
 -- the desk that the definitions describe
 abbrev pub described_desk : Desk

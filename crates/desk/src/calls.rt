@@ -6,7 +6,7 @@ ghost use Rattle.wire.specs.Reading.{read};
 ghost use Rattle.desk.specs.Calling.{Called, turned_alone};
 ghost use Rattle.desk.specs.Steps.{Reads, Sends};
 ghost use Rattle.desk.specs.Memory.{Lent};
-ghost use Rattle.desk.specs.Promises.{DesksRight, RefusalsKeep, DescribedObeys};
+ghost use Rattle.desk.specs.Promises.{DesksRight, RefusalsKeep, RefusedAlone, DescribedObeys};
 
 use crate::header::Header;
 use crate::opening::refused;
@@ -16,11 +16,12 @@ use wire::{Answer, Call, Garbled, Numbers, Place, Refusal, TurnedAway};
 
 // Does what the call in these bytes asks for, and writes its answer at the start of the bytes that are lent for it; how long
 // that is. For a call that is turned away nothing is written, and nothing changes.
-#[tactic(auto, using(crate::proofs::Checking::heard, crate::proofs::Promised::desks_right, crate::proofs::Promised::refusals_keep, crate::proofs::Described::described_obeys))]
+#[tactic(auto, using(crate::proofs::Checking::heard, crate::proofs::Promised::desks_right, crate::proofs::Promised::refusals_keep, crate::proofs::Checking::refused_alone, crate::proofs::Described::described_obeys))]
 pub fn call(mem: &mut [u64], bytes: &[u8], out: &mut [u8]) -> Result<usize, TurnedAway>
     ensures called { Called (read bytes.now) mem.old mem.new out.old out.new result }
     ensures desks_right { DesksRight }
     ensures refusals_keep { RefusalsKeep }
+    ensures refused_alone { RefusedAlone }
     ensures described_obeys { DescribedObeys }
 {
     answer(mem, Call::decode(bytes), out)
