@@ -1,5 +1,5 @@
 -- Calls that are turned away for what they are, or for want of what is lent; and places held in 32 bits. Assumes nothing.
-use Rattle.std.proofs.Common.{◌≡◌, ◌≢◌, ℕ, ◌^◌, ◌<◌, List, length, Ok, Err, Result, refl, sym, ◌∙◌, arith, true, false, ◌==◌}
+use Rattle.std.proofs.Common.{◌≡◌, ℕ, ◌^◌, ◌<◌, List, length, Ok, Err, Result, refl, sym, ◌∙◌, arith, false, ◌==◌}
 use Rattle.std.proofs.lemmas.Bool.{false≢true}
 use Rattle.std.proofs.lemmas.Bool.Decides.{nat_tests}
 use Rattle.std.specs.Prelude.{IsErrAnd}
@@ -7,7 +7,7 @@ use Rattle.estate.specs.Answers.{Answer, refused}
 use Rattle.estate.specs.Estates.{Estate, counted}
 use Rattle.estate.specs.Limits.{Limits}
 use Rattle.estate.specs.Calls.{Call, claims, proves, comes, shares, cents, garbled}
-use Rattle.estate.specs.Refusals.{unreadable, too_large as largest, turned, place}
+use Rattle.estate.specs.Refusals.{turned, place}
 use Rattle.estate.specs.Right.{answered}
 use Rattle.wire.specs.Calls.{narrow}
 use Rattle.wire.specs.Reading.{read, Heard}
@@ -16,7 +16,6 @@ use Rattle.wire.specs.declared.refusals.Refusal.TheVariants.{Unreadable, TooLarg
 use Rattle.wire.proofs.Narrow.{narrow_enough}
 use Rattle.desk.specs.Memory.{limits_of, estate_of, Headed, Lent}
 use Rattle.desk.specs.Calling.{Told, Called, turned_alone, turned_unlent}
-use Rattle.desk.specs.Promises.{RefusedAlone}
 use Rattle.wire.specs.Meaning.{refusal}
 use Rattle.desk.proofs.Keeping.{refused_by, refused_told, unchanged}
 use Rattle.desk.proofs.Words.{claims_counted}
@@ -74,19 +73,6 @@ turned_same l e (garbled n) f = refl
 
 pub answered_alone : (l : Limits) (e : Estate) (c : Call) → (turned_alone c == 0) ≡ false → answered l e c ≡ turned_unlent c
 answered_alone l e c f = rw (turned_same l e c f, f) refl
-
--- and where nothing does, no estate turns it away for its bytes or its size
-let_pass : (l : Limits) (e : Estate) (c : Call) → (turned_alone c == 0) ≡ true → (turned l e c ≢ unreadable) × (turned l e c ≢ largest)
-let_pass l e (claims c) t = (grind (arith, nat_tests), grind (arith, nat_tests))
-let_pass l e (proves i c) t = (grind (arith, nat_tests), grind (arith, nat_tests))
-let_pass l e (comes x) t = (grind (arith, nat_tests), grind (arith, nat_tests))
-let_pass l e shares t = (grind (arith, nat_tests), grind (arith, nat_tests))
-let_pass l e cents t = (grind (arith, nat_tests), grind (arith, nat_tests))
-let_pass l e (garbled n) t = absurd (false≢true t)
-
-pub refused_alone : RefusedAlone
-unfolding RefusedAlone
-refused_alone l e c = (answered_alone l e c, let_pass l e c)
 
 turned_away : (c : Call) (m out : List ℕ) (t : TurnedAway) → (turned_alone c == 0) ≡ false → refusal t ≡ refused (turned_alone c) (place c (turned_alone c)) → Called c m m out out (Err t)
 unfolding Called

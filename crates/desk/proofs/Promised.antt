@@ -1,5 +1,6 @@
 -- Desks that do as the contracts say keep the promises, and the desk of the definitions is one. Assumes nothing.
-use Rattle.std.proofs.Common.{◌≡◌, ℕ, ◌<◌, ◌≤◌, Bool, true, false, ◌==◌, List, [], ◌∷◌, ◌++◌, length, drop, replicate, Ok, Err, Result, refl, sym, ap, ◌∙◌, subst, arith}
+use Rattle.std.proofs.Common.{◌≡◌, ◌≢◌, ℕ, ◌<◌, ◌≤◌, Bool, true, false, ◌==◌, List, [], ◌∷◌, ◌++◌, length, drop, replicate, Ok, Err, Result, refl, sym, ap, ◌∙◌, subst, arith}
+use Rattle.std.proofs.lemmas.Bool.{false≢true}
 use Rattle.std.proofs.lemmas.Bool.Decides.{nat_tests}
 use Rattle.std.proofs.lemmas.List.Elements.{All-append, All-set}
 use Rattle.std.proofs.lemmas.List.{places, take_at, length-replicate, length_push, length-set}
@@ -10,15 +11,16 @@ use Rattle.estate.specs.Changes.{changed, after, ran}
 use Rattle.estate.specs.Desks.{Memory, Desk, all_said, left_by}
 use Rattle.estate.specs.Estates.{Estate, new_estate}
 use Rattle.estate.specs.Limits.{Limits, most_cents}
-use Rattle.estate.specs.Refusals.{turned}
+use Rattle.estate.specs.Refusals.{unreadable, too_large, turned}
 use Rattle.estate.specs.Right.{IsRight, AllRight, answered}
 use Rattle.estate.proofs.RightAnswers.{answered_right}
 use Rattle.wire.specs.declared.refusals.TurnedAway.{TurnedAway}
 use Rattle.wire.specs.Answers.{answer_row}
 use Rattle.wire.proofs.AnswerRows.{one_answer}
 use Rattle.desk.specs.Memory.{layout, bytes_asked, limits_of, estate_of, rest_of, Allowed, Stands, Lent}
-use Rattle.desk.specs.Calling.{Given, Served, Called}
-use Rattle.desk.specs.Promises.{Obeys, DesksRight, RefusalsKeep, OneEstate, NewDesk, StaysDesk}
+use Rattle.desk.specs.Calling.{Given, Served, Called, turned_alone}
+use Rattle.desk.specs.Promises.{Obeys, DesksRight, RefusalsKeep, RefusedAlone, OneEstate, NewDesk, StaysDesk}
+use Rattle.desk.proofs.Checking.{answered_alone}
 use Rattle.desk.proofs.Words.{count_read, long_enough, limits_read, estate_read, rest_read}
 
 -- a desk stands where it was laid
@@ -146,6 +148,19 @@ refusals_keep k o l cs c few turned =
     let g = goes_on k o l _ (ran l new_estate cs) (left_by k (k.opened l) cs) c f w in
     let same = after-turned l (ran l new_estate cs) c turned in
     ap (λ ws. record { words = ws }) (rw same at g.0 ∙ sym w)
+
+-- where nothing turns a call away by itself, no estate does for its bytes or its size
+let_pass : (l : Limits) (e : Estate) (c : Call) → (turned_alone c == 0) ≡ true → (turned l e c ≢ unreadable) × (turned l e c ≢ too_large)
+let_pass l e (claims c) t = grind (arith, nat_tests)
+let_pass l e (proves i c) t = grind (arith, nat_tests)
+let_pass l e (comes x) t = grind (arith, nat_tests)
+let_pass l e shares t = grind (arith, nat_tests)
+let_pass l e cents t = grind (arith, nat_tests)
+let_pass l e (garbled n) t = absurd (false≢true t)
+
+pub refused_alone : RefusedAlone
+unfolding RefusedAlone
+refused_alone l e c = (answered_alone l e c, let_pass l e c)
 
 pub one_estate : OneEstate
 one_estate l k e f rest more allowed also same =

@@ -16,7 +16,7 @@ use wire::{Answer, Call, Garbled, Numbers, Place, Refusal, TurnedAway};
 
 // Does what the call in these bytes asks for, and writes its answer at the start of the bytes that are lent for it; how long
 // that is. For a call that is turned away nothing is written, and nothing changes.
-#[tactic(auto, using(crate::proofs::Checking::heard, crate::proofs::Promised::desks_right, crate::proofs::Promised::refusals_keep, crate::proofs::Checking::refused_alone, crate::proofs::Described::described_obeys))]
+#[tactic(auto, using(crate::proofs::Checking::heard, crate::proofs::Promised::desks_right, crate::proofs::Promised::refusals_keep, crate::proofs::Promised::refused_alone, crate::proofs::Described::described_obeys))]
 pub fn call(mem: &mut [u64], bytes: &[u8], out: &mut [u8]) -> Result<usize, TurnedAway>
     ensures called { Called (read bytes.now) mem.old mem.new out.old out.new result }
     ensures desks_right { DesksRight }
